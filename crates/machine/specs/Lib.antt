@@ -1,0 +1,3 @@
+pub mod Run
+pub mod Entry
+pub mod Answers

@@ -1,0 +1,132 @@
+// One machine: what it is told, what it does then, and one step from the one to the other.
+ghost use mathlib.Core.Path.{_≡_};
+ghost use lib.ListN.{length};
+ghost use Prim.Native.Nat.{_≤_};
+ghost use Rattle.machine.specs.Answers.{Event-says, as-event, Did, told-of, row-after};
+ghost use Rattle.machine.specs.Entry.{own, Step-says, step-fits};
+
+#[derive(Clone, Copy)]
+pub enum Event<'a> {
+    // Which machine it is; its memory is as at the start.
+    Wakes(u64),
+    // A reading: time, place, value.
+    Comes(u64, u64, u64),
+    // No reading for now: too many are not released yet.
+    Later,
+    // The gauge has no more readings.
+    Ends,
+    // From a machine.
+    Letter(u64, &'a [u8]),
+    // What is in the drawer that was asked for.
+    Slot(&'a [u8]),
+    Next,
+}
+
+#[derive(Clone, Copy)]
+pub enum Act {
+    // The next reading.
+    More,
+    // Readings are to come from this place of the row on.
+    From(u64),
+    // Readings before this place are released.
+    LetGo(u64),
+    // To a machine, so many bytes of the buffer.
+    Sends(u8, u16),
+    // Into a drawer, so many bytes of the buffer.
+    Keep(u8, u16),
+    Recall(u64),
+    // Hour, place, sum.
+    Tells(u64, u64, u64),
+    Rests,
+}
+
+// An act as it is told to the caller: what does not fit in one number stands in the lent row and buffer.
+#[derive(Clone, Copy)]
+pub enum Told {
+    More,
+    From(u64),
+    LetGo(u64),
+    // 65,536 times the machine, or the drawer, and so many bytes.
+    Sends(u64),
+    Keep(u64),
+    Recall(u64),
+    // The place; hour, place and sum stand in the row.
+    Tells(u64),
+    Rests,
+    No(u64),
+}
+
+// How many numbers the memory has.
+pub const MEMORY: usize = 0;
+// How many bytes a drawer or a letter has at most.
+pub const LETTER: usize = 4096;
+// How many numbers an answer has at most.
+pub const ROW: usize = 3;
+
+impl Event<'_> {
+    // The event of a number and its values, or none where there is no such number.
+    fn read(kind: u64, a: u64, b: u64, c: u64, bytes: &[u8]) -> Option<Event<'_>>
+        ensures { λ r. ⌜ Event-says kind a b c (now (bytes .entry)) r ⌝ }
+    {
+        let event = match kind {
+            0 => Event::Wakes(a),
+            1 => Event::Comes(a, b, c),
+            2 => Event::Later,
+            3 => Event::Ends,
+            4 => Event::Letter(a, bytes),
+            5 => Event::Slot(bytes),
+            6 => Event::Next,
+            _ => return None,
+        };
+        Some(event)
+    }
+}
+
+impl Act {
+    // Writes the act for the caller: hour, place and sum into the row, drawer and length into one number.
+    fn tell(self, row: &mut [u64]) -> Told
+        requires { ⌜ 3 ≤ length (now row) ⌝ }
+        ensures told { λ r. ⌜ r ≡ told-of self ⌝ }
+        ensures row { λ _. ⌜ now (row .exit) ≡ row-after self (now (row .entry)) ⌝ }
+    {
+        match self {
+            Act::More => Told::More,
+            Act::From(p) => Told::From(p),
+            Act::LetGo(p) => Told::LetGo(p),
+            Act::Sends(to, len) => Told::Sends(65536 * u64::from(to) + u64::from(len)),
+            Act::Keep(drawer, len) => Told::Keep(65536 * u64::from(drawer) + u64::from(len)),
+            Act::Recall(drawer) => Told::Recall(drawer),
+            Act::Tells(hour, place, sum) => {
+                row[0] = hour;
+                row[1] = place;
+                row[2] = sum;
+                Told::Tells(place)
+            }
+            Act::Rests => Told::Rests,
+        }
+    }
+}
+
+// What the machine does when it is told of an event.
+fn react(memory: &mut [u64], event: Event<'_>, out: &mut [u8]) -> Act
+    ensures { λ r. ⌜ Did (own .step (now (memory .entry)) (as-event (event .entry))) r (now (memory .exit)) (now (out .entry)) (now (out .exit)) ⌝ }
+{
+    match event {
+        Event::Wakes(_) | Event::Comes(_, _, _) | Event::Later | Event::Ends => Act::Rests,
+        Event::Letter(_, _) | Event::Slot(_) | Event::Next => Act::Rests,
+    }
+}
+
+// One step: the event of number `kind` with its values, and what the machine does then.
+pub fn step(memory: &mut [u64], kind: u64, a: u64, b: u64, c: u64, bytes: &[u8], row: &mut [u64], out: &mut [u8]) -> Told
+    ensures { λ r. ⌜ Step-says (now (memory .entry)) kind a b c (now (bytes .entry)) (now (row .entry)) (now (out .entry)) (step-fits (now (memory .entry)) kind (now (bytes .entry)) (now (row .entry)) (now (out .entry))) r (now (memory .exit)) (now (row .exit)) (now (out .exit)) ⌝ }
+{
+    if memory.len() != MEMORY || bytes.len() > LETTER || row.len() < ROW || out.len() < LETTER {
+        return Told::No(0);
+    }
+    let Some(event) = Event::read(kind, a, b, c, bytes) else {
+        return Told::No(0);
+    };
+    let act = react(memory, event, out);
+    act.tell(row)
+}

@@ -1,0 +1,5 @@
+pub mod Sums
+pub mod Laws
+pub mod Add
+pub mod Readings
+pub mod Worked
