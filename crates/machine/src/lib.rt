@@ -68,17 +68,16 @@ impl Event<'_> {
     fn read(kind: u64, a: u64, b: u64, c: u64, bytes: &[u8]) -> Option<Event<'_>>
         ensures { λ r. ⌜ Event-says kind a b c (now (bytes .entry)) r ⌝ }
     {
-        let event = match kind {
-            0 => Event::Wakes(a),
-            1 => Event::Comes(a, b, c),
-            2 => Event::Later,
-            3 => Event::Ends,
-            4 => Event::Letter(a, bytes),
-            5 => Event::Slot(bytes),
-            6 => Event::Next,
-            _ => return None,
-        };
-        Some(event)
+        match kind {
+            0 => Some(Event::Wakes(a)),
+            1 => Some(Event::Comes(a, b, c)),
+            2 => Some(Event::Later),
+            3 => Some(Event::Ends),
+            4 => Some(Event::Letter(a, bytes)),
+            5 => Some(Event::Slot(bytes)),
+            6 => Some(Event::Next),
+            _ => None,
+        }
     }
 }
 

@@ -1,0 +1,73 @@
+-- From what a handler did to what a step is to say.
+use mathlib.Core.Path.{_≡_, refl, ap, sym, _∙_, subst}
+use mathlib.Core.Bool.{Bool, true, false, _&&_}
+use mathlib.Core.List.{List, [], _∷_}
+use mathlib.Core.Logic.{⊎-elim}
+use Prim.Native.Nat.{ℕ, _≤_}
+use lib.Dec.{eqb, leb}
+use lib.ListN.{length}
+use Rattle.std.proofs.shelf.Tests.{eq-eqb, le-leb, and-from, and-parts, eqb-true, leb-true, cases-bool}
+use Rattle.machine.specs.Run as run
+use Rattle.machine.specs.Run.{more, from, let-go, sends, keep, recall, tells, rests}
+use Rattle.machine.specs.Entry.{own, event-of, Act-told, Step-says, step-fits}
+use Rattle.machine.specs.Answers.{as-event, act-of, out-after, Did, told-of, row-after}
+use Rattle.machine.specs.declared.Act.{Act}
+use Rattle.machine.specs.declared.Event.{Event}
+use Rattle.machine.specs.declared.Told.{Told}
+use Rattle.machine.specs.declared.Told.the-variants.{No}
+
+-- the event of a number, at the number that it is
+pub read-as : (kind k a b c : ℕ) (bs : List ℕ) (e : run.Event) → kind ≡ k → leb k 6 ≡ true → e ≡ event-of k a b c bs →
+    (leb kind 6 ≡ true) × (e ≡ event-of kind a b c bs)
+read-as kind k a b c bs e is low same = subst (λ n. (leb n 6 ≡ true) × (e ≡ event-of n a b c bs)) (sym is) (low, same)
+
+act-told : (a : run.Act) (r : Told) (row row₁ out out₁ : List ℕ) →
+    r ≡ told-of (act-of a) → row₁ ≡ row-after (act-of a) row → out₁ ≡ out-after a out → Act-told a r row row₁ out out₁
+unfolding Act-told
+act-told more r row row₁ out out₁ p q s = (p, q, s)
+act-told (from x) r row row₁ out out₁ p q s = (p, q, s)
+act-told (let-go x) r row row₁ out out₁ p q s = (p, q, s)
+act-told (sends j b) r row row₁ out out₁ p q s = (p, q, s)
+act-told (keep j b) r row row₁ out out₁ p q s = (p, q, s)
+act-told (recall x) r row row₁ out out₁ p q s = (p, q, s)
+act-told (tells h k x) r row row₁ out out₁ p q s = (p, q, s)
+act-told rests r row row₁ out out₁ p q s = (p, q, s)
+
+-- the tests that the code makes
+abbrev pub Fits : (m : List ℕ) (kind : ℕ) (bytes row out : List ℕ) → Type 0
+Fits m kind bytes row out = (length m ≡ 0) × (leb kind 6 ≡ true) × (length bytes ≤ 4096) × (3 ≤ length row) × (4096 ≤ length out)
+
+start-length : length (own .start) ≡ 0
+unfolding own
+start-length = refl
+
+fits-true : (m : List ℕ) (kind : ℕ) (bytes row out : List ℕ) → Fits m kind bytes row out → step-fits m kind bytes row out ≡ true
+unfolding step-fits
+fits-true m kind bytes row out f =
+    and-from _ _ (eq-eqb _ _ (f .0 ∙ sym start-length)) (and-from _ _ (f .1) (and-from _ _ (le-leb _ _ (f .2)) (and-from _ _ (le-leb _ _ (f .3)) (le-leb _ _ (f .4)))))
+
+true-fits : (m : List ℕ) (kind : ℕ) (bytes row out : List ℕ) → step-fits m kind bytes row out ≡ true → Fits m kind bytes row out
+unfolding step-fits
+true-fits m kind bytes row out t =
+    let p = and-parts _ _ t in
+    let q = and-parts _ _ (p .1) in
+    let r = and-parts _ _ (q .1) in
+    let s = and-parts _ _ (r .1) in
+    (eqb-true _ _ (p .0) ∙ start-length, q .0, leb-true _ _ (r .0), leb-true _ _ (s .0), leb-true _ _ (s .1))
+
+pub stepped : (m : List ℕ) (kind a b c : ℕ) (bytes row out : List ℕ) (e : Event) (did : Act) (r : Told) (m₁ row₁ out₁ : List ℕ) →
+    Fits m kind bytes row out → as-event e ≡ event-of kind a b c bytes → Did (own .step m (as-event e)) did m₁ out out₁ →
+    r ≡ told-of did → row₁ ≡ row-after did row → Step-says m kind a b c bytes row out (step-fits m kind bytes row out) r m₁ row₁ out₁
+unfolding Step-says
+stepped m kind a b c bytes row out e did r m₁ row₁ out₁ f same d told rows =
+    let d′ = subst (λ x. Did (own .step m x) did m₁ out out₁) same d in
+    simp (fits-true m kind bytes row out f)
+    (d′ .0, act-told (own .step m (event-of kind a b c bytes) .act) r row row₁ out out₁ (told ∙ ap told-of (d′ .1)) (rows ∙ ap (λ x. row-after x row) (d′ .1)) (d′ .2))
+
+pub refused : (m : List ℕ) (kind a b c : ℕ) (bytes row out : List ℕ) → (Fits m kind bytes row out → ⊥) →
+    Step-says m kind a b c bytes row out (step-fits m kind bytes row out) (No 0) m row out
+unfolding Step-says
+refused m kind a b c bytes row out n =
+    ⊎-elim (λ (t : step-fits m kind bytes row out ≡ true). absurd (n (true-fits m kind bytes row out t)))
+        (λ (t : step-fits m kind bytes row out ≡ false). simp t (refl, refl, refl, refl))
+        (cases-bool (step-fits m kind bytes row out))
