@@ -1,0 +1,5 @@
+// Rivers: what eight gauges read and what happens to their machines, as text and as it is played.
+pub mod model;
+
+pub use model::Item;
+pub use model::River;
