@@ -60,6 +60,8 @@ pub enum Told {
 pub const MEMORY: usize = 0;
 // How many bytes a drawer or a letter has at most.
 pub const LETTER: usize = 4096;
+// A length is below this: a drawer or a machine and a length are told as one number by it.
+pub const LENGTHS: u64 = 65536;
 // How many numbers an answer has at most.
 pub const ROW: usize = 3;
 
@@ -92,8 +94,8 @@ impl Act {
             Act::More => Told::More,
             Act::From(p) => Told::From(p),
             Act::LetGo(p) => Told::LetGo(p),
-            Act::Sends(to, len) => Told::Sends(65536 * u64::from(to) + u64::from(len)),
-            Act::Keep(drawer, len) => Told::Keep(65536 * u64::from(drawer) + u64::from(len)),
+            Act::Sends(to, len) => Told::Sends(LENGTHS * u64::from(to) + u64::from(len)),
+            Act::Keep(drawer, len) => Told::Keep(LENGTHS * u64::from(drawer) + u64::from(len)),
             Act::Recall(drawer) => Told::Recall(drawer),
             Act::Tells(hour, place, sum) => {
                 row[0] = hour;

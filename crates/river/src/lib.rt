@@ -1,5 +1,8 @@
 // Rivers: what eight gauges read and what happens to their machines, as text and as it is played.
 pub mod model;
+pub mod wall;
+pub mod hut;
+pub mod world;
 
 pub use model::Item;
 pub use model::River;
