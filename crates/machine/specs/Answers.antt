@@ -2,9 +2,9 @@
 use mathlib.Core.Path.{_≡_}
 use mathlib.Core.Bool.{true, false}
 use mathlib.Core.List.{List, [], _∷_, _++_}
-use Prim.Native.Nat.{ℕ, _+_, _*_}
+use Prim.Native.Nat.{ℕ, _+_, _*_, _/_, _%_}
 use lib.Dec.{leb}
-use lib.ListN.{length, drop}
+use lib.ListN.{length, drop, take, getD}
 use denote.Ref.{now}
 use Rattle.std.specs.declared.option.Option.{Option}
 use Rattle.std.specs.declared.option.Option.the-variants.{Some, None}
@@ -79,3 +79,15 @@ row-after (act.Keep s n) row = row
 row-after (act.Recall s) row = row
 row-after (act.Tells h k s) row = h ∷ k ∷ s ∷ drop 3 row
 row-after act.Rests row = row
+
+-- the act that was told, read back from the number, the row and the buffer; none where the step was refused
+abbrev pub act-back : Told → (row out : List ℕ) → Option run.Act
+act-back told.More row out = Some more
+act-back (told.From p) row out = Some (from p)
+act-back (told.LetGo p) row out = Some (let-go p)
+act-back (told.Sends n) row out = Some (sends (n / 65536) (take (n % 65536) out))
+act-back (told.Keep n) row out = Some (keep (n / 65536) (take (n % 65536) out))
+act-back (told.Recall s) row out = Some (recall s)
+act-back (told.Tells k) row out = Some (tells (getD row 0 0) k (getD row 2 0))
+act-back told.Rests row out = Some rests
+act-back (told.No n) row out = None
