@@ -1,0 +1,6 @@
+pub mod Induction
+pub mod Machines
+pub mod Acts
+pub mod Start
+pub mod Others
+pub mod Laws
