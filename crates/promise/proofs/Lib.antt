@@ -1,3 +1,6 @@
+pub mod Hours
+pub mod Parts
+pub mod Rows
 pub mod Induction
 pub mod Machines
 pub mod Acts
