@@ -18,11 +18,23 @@ state w i = machine-at (w .machines) i
 abbrev pub with-event : Machine → List ℕ → Event → Machine
 with-event x m ev = machine m (ev ∷ []) (x .reads-at) (x .gone) (x .slots)
 
+-- machine i is set, and a letter is sent
+abbrev pub with-letter : World → ℕ → Machine → Letter → World
+with-letter w i x l = record { machines = set-nth (w .machines) i x; wires = (w .wires) ++ l ∷ []; told = w .told; fault = w .fault }
+
+-- machine i is set, and a sum is told
+abbrev pub with-told : World → ℕ → Machine → Told-sum → World
+with-told w i x t = record { machines = set-nth (w .machines) i x; wires = w .wires; told = (w .told) ++ t ∷ []; fault = w .fault }
+
+-- machine j is set, and the oldest letter from i to j is off the wires
+abbrev pub with-brought : World → (i j : ℕ) → Machine → World
+with-brought w i j x = record { machines = set-nth (w .machines) j x; wires = without-first i j (w .wires); told = w .told; fault = w .fault }
+
 module _ (gs : Gauges) (w : World) (i : ℕ) (m : List ℕ) (P : World → Type 0) where
   pub on-more :
       (length (nth-row gs i) ≤ state w i .reads-at → P (with-machine w i (with-event (state w i) m ends))) →
       (state w i .reads-at < length (nth-row gs i) → state w i .reads-at < state w i .gone + 4096 →
-          P (with-machine w i (machine m (first-reading (drop (state w i .reads-at) (nth-row gs i)) ∷ []) (suc (state w i .reads-at)) (state w i .gone) (state w i .slots)))) →
+      P (with-machine w i (machine m (first-reading (drop (state w i .reads-at) (nth-row gs i)) ∷ []) (suc (state w i .reads-at)) (state w i .gone) (state w i .slots)))) →
       (state w i .reads-at < length (nth-row gs i) → state w i .gone + 4096 ≤ state w i .reads-at → P (with-machine w i (with-event (state w i) m later))) →
       P (acted gs w i m more)
   unfolding acted
@@ -40,8 +52,7 @@ module _ (gs : Gauges) (w : World) (i : ℕ) (m : List ℕ) (P : World → Type 
   on-let-go p a b h = rw (le-leb _ _ a, le-leb _ _ b) h
 
   pub on-sends : (j : ℕ) (bs : List ℕ) → j < 8 → (i ≡ j → ⊥) → bytes bs ≡ true →
-      P (record { machines = set-nth (w .machines) i (with-event (state w i) m next);
-          wires = (w .wires) ++ record { sender = i; reader = j; text = bs } ∷ []; told = w .told; fault = w .fault }) → P (acted gs w i m (sends j bs))
+      P (with-letter w i (with-event (state w i) m next) (record { sender = i; reader = j; text = bs })) → P (acted gs w i m (sends j bs))
   unfolding acted
   on-sends j bs a b c h = rw (lt-ltb _ _ a, ne-eqb _ _ b, c) h
 
@@ -54,9 +65,7 @@ module _ (gs : Gauges) (w : World) (i : ℕ) (m : List ℕ) (P : World → Type 
   unfolding acted
   on-recall s a h = rw (lt-ltb _ _ a) h
 
-  pub on-tells : (h k s : ℕ) →
-      P (record { machines = set-nth (w .machines) i (with-event (state w i) m next);
-          wires = w .wires; told = (w .told) ++ record { hour = h; place = k; sum = s } ∷ []; fault = w .fault }) → P (acted gs w i m (tells h k s))
+  pub on-tells : (h k s : ℕ) → P (with-told w i (with-event (state w i) m next) (record { hour = h; place = k; sum = s })) → P (acted gs w i m (tells h k s))
   unfolding acted
   on-tells h k s p = p
 
@@ -65,10 +74,8 @@ module _ (gs : Gauges) (w : World) (i : ℕ) (m : List ℕ) (P : World → Type 
   on-rests p = p
 
   -- whatever the act
-  pub on-any : (a : Act) → ((x : Machine) → P (with-machine w i x)) →
-      ((x : Machine) (l : Letter) → P (record { machines = set-nth (w .machines) i x; wires = (w .wires) ++ l ∷ []; told = w .told; fault = w .fault })) →
-      ((x : Machine) (t : Told-sum) → P (record { machines = set-nth (w .machines) i x; wires = w .wires; told = (w .told) ++ t ∷ []; fault = w .fault })) →
-      P (faulty w) → P (acted gs w i m a)
+  pub on-any : (a : Act) → ((x : Machine) → P (with-machine w i x)) → ((x : Machine) (l : Letter) → P (with-letter w i x l)) →
+      ((x : Machine) (t : Told-sum) → P (with-told w i x t)) → P (faulty w) → P (acted gs w i m a)
   unfolding acted
   on-any more x l t f = on-more (λ _. x _) (λ _ _. x _) (λ _ _. x _)
   on-any (from p) x l t f = pick-both _ _ _ P (λ _. x (machine m (next ∷ []) p (state w i .gone) (state w i .slots))) (λ _. f)
@@ -88,8 +95,7 @@ module _ (w : World) (P : World → Type 0) where
 
   on-given : (i j : ℕ) (ls : List Letter) →
       ((l : Letter) (rest : List Letter) → ls ≡ l ∷ rest →
-          P (record { machines = set-nth (w .machines) j (with-event (state w j) (state w j .memory) (letter i (l .text)));
-              wires = without-first i j (w .wires); told = w .told; fault = w .fault })) →
+      P (with-brought w i j (with-event (state w j) (state w j .memory) (letter i (l .text))))) →
       (ls ≡ [] → P w) → P (given w i j ls)
   unfolding given
   on-given i j [] f g = g refl
@@ -98,7 +104,6 @@ module _ (w : World) (P : World → Type 0) where
   -- the reader rests and there is a letter; or there is none; or the reader does not rest
   pub on-delivered : (i j : ℕ) →
       (none-of (state w j .pending) ≡ true → (l : Letter) (rest : List Letter) → first-between i j (w .wires) ≡ l ∷ rest →
-          P (record { machines = set-nth (w .machines) j (with-event (state w j) (state w j .memory) (letter i (l .text)));
-              wires = without-first i j (w .wires); told = w .told; fault = w .fault })) →
+      P (with-brought w i j (with-event (state w j) (state w j .memory) (letter i (l .text))))) →
       (first-between i j (w .wires) ≡ [] → P w) → (none-of (state w j .pending) ≡ false → P w) → P (delivered w i j)
   on-delivered i j f g h = pick-both _ _ _ P (λ q. on-given i j _ (f q) g) h

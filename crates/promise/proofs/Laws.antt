@@ -69,10 +69,11 @@ module _ (e : Engine) (gs : Gauges) (told₀ : List Told-sum) where
 
   keeps-told : Keeps e gs Goes-on
   keeps-told = record {
-      steps = λ w i h g. step-adds w i _ g;
-      pokes = λ w i g. on-poked w Goes-on i (λ _. g) (λ _. g);
-      delivers = λ w i j g. on-delivered w Goes-on i j (λ _ _ _ _. g) (λ _. g) (λ _. g);
-      falls-down = λ w i g. g }
+    steps = λ w i h g. step-adds w i _ g;
+    pokes = λ w i g. on-poked w Goes-on i (λ _. g) (λ _. g);
+    delivers = λ w i j g. on-delivered w Goes-on i j (λ _ _ _ _. g) (λ _. g) (λ _. g);
+    falls-down = λ w i g. g;
+  }
 
 pub never-back : Never-back
 unfolding Never-back

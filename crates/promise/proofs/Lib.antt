@@ -6,4 +6,5 @@ pub mod Machines
 pub mod Acts
 pub mod Start
 pub mod Others
+pub mod Calm
 pub mod Laws

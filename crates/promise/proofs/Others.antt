@@ -48,9 +48,9 @@ module _ (f : World → ℕ → World) (Inv : World → Type 0) (Q : ℕ → Wor
   by-each-all (suc n) le w v j lt =
       rw (by-each-append f w (up-to n) (n ∷ []))
       (⊎-elim
-          (λ q. rw q (make _ n (omega arith) (by-each-good Inv f keep (up-to n) w v)))
-          (λ ne. stay _ n j (λ q. ne (sym q)) (by-each-good Inv f keep (up-to n) w v) (by-each-all n (omega arith) w v j (omega arith)))
-          (cases-eq j n))
+      (λ q. rw q (make _ n (omega arith) (by-each-good Inv f keep (up-to n) w v)))
+      (λ ne. stay _ n j (λ q. ne (sym q)) (by-each-good Inv f keep (up-to n) w v) (by-each-all n (omega arith) w v j (omega arith)))
+      (cases-eq j n))
 
   pub by-each-eight : (w : World) → Inv w → (j : ℕ) → j < 8 → Q j (by-each f w (up-to 8))
   by-each-eight w v j lt = by-each-all 8 (omega arith) w v j lt
@@ -68,11 +68,12 @@ module _ (f : World → ℕ → World) (j : ℕ) (A B : World → Type 0)
       go : ((j < n → B (by-each f w (up-to n))) × (n ≤ j → A (by-each f w (up-to n)))) →
           (j < suc n → B (f (by-each f w (up-to n)) n)) × (suc n ≤ j → A (f (by-each f w (up-to n)) n))
       go ih = (
-          λ lt. ⊎-elim
-              (λ e. subst (λ m. B (f (by-each f w (up-to n)) m)) e (turn _ (ih .1 (omega arith))))
-              (λ ne. later-on _ n (λ q. ne (sym q)) (ih .0 (omega arith)))
-              (cases-eq j n),
-          λ le. before _ n (λ q. omega arith) (ih .1 (omega arith)))
+        λ lt. ⊎-elim
+            (λ e. subst (λ m. B (f (by-each f w (up-to n)) m)) e (turn _ (ih .1 (omega arith))))
+            (λ ne. later-on _ n (λ q. ne (sym q)) (ih .0 (omega arith)))
+            (cases-eq j n),
+        λ le. before _ n (λ q. omega arith) (ih .1 (omega arith)),
+      )
 
   pub by-each-once : j < 8 → (w : World) → A w → B (by-each f w (up-to 8))
   by-each-once lt w a = by-each-turn 8 w a .0 lt

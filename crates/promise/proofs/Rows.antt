@@ -93,9 +93,10 @@ fits-at row p h lt =
     let fits : a-reading (getD row p no-reading) ≡ true = every-at a-reading row p no-reading lt h in
     let rest = and-parts (ltb (getD row p no-reading .time) 4611686018427387904) _ fits .1 in
     record {
-        time = ltb-true _ _ (and-parts _ _ fits .0);
-        key = ltb-true _ _ (and-parts _ _ rest .0);
-        value = ltb-true _ _ (and-parts (ltb (getD row p no-reading .key) 1024) _ rest .1) }
+      time = ltb-true _ _ (and-parts _ _ fits .0);
+      key = ltb-true _ _ (and-parts _ _ rest .0);
+      value = ltb-true _ _ (and-parts (ltb (getD row p no-reading .key) 1024) _ rest .1);
+    }
 
 -- the event that comes of a place in the row
 pub reading-at : (row : List Reading) (p : ℕ) (P : Event → Type 0) → p < length row →

@@ -44,6 +44,6 @@ unfolding numbered
 numbered-at e zero j h = absurd (omega arith)
 numbered-at e (suc n) j h = ⊎-elim
     (λ q. rw q (subst (λ k. machine-at (numbered e n ++ woken e n 0 (so-many-of 256 []) ∷ []) k ≡ woken e n 0 (so-many-of 256 []))
-        (length-numbered e n) (at-last (numbered e n) _)))
+    (length-numbered e n) (at-last (numbered e n) _)))
     (λ ne. let lt : j < n = omega arith in at-front (numbered e n) _ j (rw (length-numbered e n) lt) ∙ numbered-at e n j lt)
     (cases-eq j n)

@@ -18,9 +18,9 @@ unfoldable pub Whole : (Gauges → Bool) → Engine → Type 0
 Whole known e =
     Steady e
     × ((gs : Gauges) (is : List Item) → gauges-fine gs ≡ true → known gs ≡ true → length is ≤ 4294967296 →
-        Safe gs (all-happened e gs (new-world e) is)
-        × ((k n : ℕ) → Safe gs (calm k n e gs (all-happened e gs (new-world e) is)))
-        × ((k : ℕ) × (n : ℕ) × (all-told gs (calm k n e gs (all-happened e gs (new-world e) is) .told) ≡ true)))
+    Safe gs (all-happened e gs (new-world e) is)
+    × ((k n : ℕ) → Safe gs (calm k n e gs (all-happened e gs (new-world e) is)))
+    × ((k : ℕ) × (n : ℕ) × (all-told gs (calm k n e gs (all-happened e gs (new-world e) is) .told) ≡ true)))
 
 -- THE SMALL CORE: only the first gauge has readings
 unfoldable pub others-empty : Gauges → Bool
