@@ -1,0 +1,10 @@
+pub mod Hours
+pub mod Parts
+pub mod Rows
+pub mod Induction
+pub mod Machines
+pub mod Acts
+pub mod Start
+pub mod Others
+pub mod Calm
+pub mod Laws
