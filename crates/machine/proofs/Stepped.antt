@@ -5,7 +5,7 @@ use mathlib.Core.List.{List, [], _∷_}
 use mathlib.Core.Logic.{⊎-elim}
 use Prim.Native.Nat.{ℕ, _≤_}
 use lib.Dec.{eqb, leb}
-use lib.ListN.{length}
+use lib.ListN.{length, replicate}
 use Rattle.std.proofs.shelf.Tests.{eq-eqb, le-leb, and-from, and-parts, eqb-true, leb-true, cases-bool}
 use Rattle.machine.specs.Run as run
 use Rattle.machine.specs.Run.{more, from, let-go, sends, keep, recall, tells, rests}
@@ -37,9 +37,14 @@ act-told rests r row row₁ out out₁ p q s = (p, q, s)
 abbrev pub Fits : (m : List ℕ) (kind : ℕ) (bytes row out : List ℕ) → Type 0
 Fits m kind bytes row out = (length m ≡ 0) × (leb kind 6 ≡ true) × (length bytes ≤ 4096) × (3 ≤ length row) × (4096 ≤ length out)
 
-start-length : length (own .start) ≡ 0
+pub start-length : length (own .start) ≡ 0
 unfolding own
 start-length = refl
+
+-- a memory of the right length that is all 0 is the one at the start
+pub start-zeros : (n : ℕ) → n ≡ length (own .start) → replicate n 0 ≡ own .start
+unfolding own
+start-zeros n e = rw e
 
 fits-true : (m : List ℕ) (kind : ℕ) (bytes row out : List ℕ) → Fits m kind bytes row out → step-fits m kind bytes row out ≡ true
 unfolding step-fits

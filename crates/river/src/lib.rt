@@ -1,8 +1,10 @@
 // Rivers: what eight gauges read and what happens to their machines, as text and as it is played.
 pub mod model;
 pub mod wall;
+pub mod post;
+pub mod letters;
 pub mod hut;
-pub mod world;
+pub mod acts;
 
 pub use model::Item;
 pub use model::River;

@@ -1,0 +1,3 @@
+mod Texts
+mod Eaches
+mod Mores
