@@ -10,9 +10,11 @@ use native.Mathlib.Nat.{mul-add-div, div-eq-of-lt, mul-add-mod-self-left, mod-eq
 use Rattle.std.specs.declared.option.Option.the-variants.{Some}
 use Rattle.machine.specs.Run as run
 use Rattle.machine.specs.Run.{more, from, let-go, sends, keep, recall, tells, rests}
-use Rattle.machine.specs.Entry.{Act-told}
+use Rattle.std.proofs.shelf.Tests.{le-leb}
+use Rattle.machine.specs.Entry.{own, event-of, Act-told, Step-says, step-fits}
 use Rattle.machine.specs.Answers.{act-back}
 use Rattle.machine.specs.declared.Told.{Told}
+use Rattle.machine.proofs.Stepped.{start-length, fits-true}
 
 -- a buffer that keeps its length has room for what was written
 room : (b out out₁ : List ℕ) → out₁ ≡ b ++ drop (length b) out → length out₁ ≡ length out → length b ≤ length out
@@ -40,3 +42,15 @@ told-back (keep s b) r row row₁ out out₁ t same low = rw (t .0) (ap₂ (λ n
 told-back (recall s) r row row₁ out out₁ t same low = rw (t .0)
 told-back (tells h k s) r row row₁ out out₁ t same low = rw (t .0, t .1)
 told-back rests r row row₁ out out₁ t same low = rw (t .0)
+
+-- a step that fits: the memory and the act of the machine's own step
+pub step-back : (m : List ℕ) (kind a b c : ℕ) (bytes row out : List ℕ) (r : Told) (m₁ row₁ out₁ : List ℕ) →
+    length m ≡ length (own .start) → kind ≤ 6 → length bytes ≤ 4096 → 3 ≤ length row → length out ≡ 4096 → length out₁ ≡ length out →
+    Step-says m kind a b c bytes row out (step-fits m kind bytes row out) r m₁ row₁ out₁ →
+    (m₁ ≡ own .step m (event-of kind a b c bytes) .memory) × (act-back r row₁ out₁ ≡ Some (own .step m (event-of kind a b c bytes) .act))
+unfolding Step-says
+step-back m kind a b c bytes row out r m₁ row₁ out₁ lm lk lb lr lo same says =
+    let low : 4096 ≤ length out = omega arith in
+    let few : length out < 65536 = omega arith in
+    let told = simp (fits-true m kind bytes row out (lm ∙ start-length, le-leb _ _ lk, lb, lr, low)) at says in
+    (told .0, told-back _ r row row₁ out out₁ (told .1) same few)

@@ -46,7 +46,7 @@ pub start-zeros : (n : ℕ) → n ≡ length (own .start) → replicate n 0 ≡ 
 unfolding own
 start-zeros n e = rw e
 
-fits-true : (m : List ℕ) (kind : ℕ) (bytes row out : List ℕ) → Fits m kind bytes row out → step-fits m kind bytes row out ≡ true
+pub fits-true : (m : List ℕ) (kind : ℕ) (bytes row out : List ℕ) → Fits m kind bytes row out → step-fits m kind bytes row out ≡ true
 unfolding step-fits
 fits-true m kind bytes row out f =
     and-from _ _ (eq-eqb _ _ (f .0 ∙ sym start-length)) (and-from _ _ (f .1) (and-from _ _ (le-leb _ _ (f .2)) (and-from _ _ (le-leb _ _ (f .3)) (le-leb _ _ (f .4)))))

@@ -10,7 +10,7 @@ use Rattle.sums.specs.Sums.{each, pick}
 use Rattle.sums.specs.Sums as given
 use Rattle.sums.specs.Readings.{as-reading}
 use Rattle.sums.specs.declared.reading.Reading.{Reading}
-use Rattle.machine.specs.Run.{Event, comes, first-reading, set-nth, nth-row}
+use Rattle.machine.specs.Run.{Event, comes, first-reading, set-nth, nth-row, so-many-of}
 use Rattle.river.specs.Model.{as-row}
 
 module _ {A B : Type 0} (f : A → B) where
@@ -55,3 +55,8 @@ unfolding nth-row
 row-past [] i h = refl
 row-past (x ∷ xs) zero h = absurd (omega arith)
 row-past (x ∷ xs) (suc i) h = row-past xs i (omega arith)
+
+pub so-many-push : {A : Type 0} (n : ℕ) (x : A) → so-many-of (suc n) x ≡ so-many-of n x ++ x ∷ []
+unfolding so-many-of
+so-many-push zero x = refl
+so-many-push (suc n) x = ap (λ l. x ∷ l) (so-many-push n x)

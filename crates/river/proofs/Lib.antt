@@ -1,3 +1,4 @@
 mod Texts
 mod Eaches
 mod Mores
+mod Stepping

@@ -5,7 +5,7 @@ use mathlib.Core.List.{List, [], _∷_, _++_}
 use Prim.Native.Nat.{ℕ, _≤_, _<_}
 use lib.Dec.{leb, ltb}
 use lib.ListN.{length}
-use Rattle.std.proofs.shelf.Tests.{and-parts, and-from, le-leb, lt-ltb}
+use Rattle.std.proofs.shelf.Tests.{and-parts, and-from, le-leb, lt-ltb, leb-true}
 use Rattle.sums.specs.Sums.{every}
 use Rattle.machine.specs.Run.{bytes}
 
@@ -29,3 +29,6 @@ bytes-push xs x h lt = every-push (λ b. ltb b 256) xs x h (lt-ltb _ _ lt)
 pub bytes-fit : (xs : List ℕ) → length xs ≤ 4096 → all-bytes xs ≡ true → bytes xs ≡ true
 unfolding all-bytes
 bytes-fit xs le h = and-from _ _ (le-leb _ _ le) h
+
+pub fit-few : (xs : List ℕ) → bytes xs ≡ true → length xs ≤ 4096
+fit-few xs h = leb-true _ _ (and-parts _ _ h .0)

@@ -5,6 +5,7 @@ pub mod post;
 pub mod letters;
 pub mod hut;
 pub mod acts;
+pub mod steps;
 
 pub use model::Item;
 pub use model::River;
