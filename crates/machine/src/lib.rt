@@ -58,6 +58,12 @@ pub enum Told {
 
 // How many numbers the memory has.
 pub const MEMORY: usize = 0;
+// How many machines there are, each with its gauge.
+pub const MACHINES: u64 = 8;
+// How many drawers a machine has.
+pub const DRAWERS: u64 = 256;
+// How many readings that are not released a roll has at most.
+pub const ROLL: u64 = 4096;
 // How many bytes a drawer or a letter has at most.
 pub const LETTER: usize = 4096;
 // A length is below this: a drawer or a machine and a length are told as one number by it.

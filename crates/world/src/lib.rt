@@ -1,0 +1,6 @@
+// The world that is played, act by act as the definitions have it.
+pub mod post;
+pub mod letters;
+pub mod hut;
+pub mod acts;
+pub mod steps;
