@@ -2,3 +2,5 @@ mod Texts
 mod Eaches
 mod Mores
 mod Stepping
+mod Huts
+mod Acting

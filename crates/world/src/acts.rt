@@ -7,9 +7,9 @@ ghost use Rattle.std.specs.Of.Vec.{vec-items};
 ghost use Rattle.std.specs.Vec.{made};
 ghost use Rattle.machine.specs.Entry.{own};
 ghost use Rattle.machine.specs.Run.{machine, next, wakes, slot, so-many-of, set-nth, nth-row};
-ghost use Rattle.sums.specs.Sums.{each};
+ghost use Rattle.sums.specs.Sums.{each, none-of};
 ghost use Rattle.sums.specs.Readings.{as-row};
-ghost use Rattle.world.specs.Played.{as-machine, as-pending, as-text, told-next, after-more, After, from-good, release-good};
+ghost use Rattle.world.specs.Played.{as-machine, as-event, as-pending, as-text, told-next, after-more, After, from-good, release-good};
 use crate::hut::Desk;
 use crate::hut::Hut;
 use crate::hut::Pending;
@@ -41,6 +41,19 @@ fn text_of(heap: Global, drawers: &Vec<Text>, drawer: u64) -> Result<Text, Alloc
 }
 
 impl Hut {
+    pub fn rests(&self) -> bool
+        ensures { λ r. ⌜ r ≡ none-of (as-machine (now (self .entry)) .pending) ⌝ }
+    {
+        self.pending.is_none()
+    }
+
+    // It will be told this next.
+    pub fn hear(&mut self, event: Pending)
+        ensures { λ _. ⌜ as-machine (now (self .exit)) ≡ told-next (as-machine (now (self .entry))) (vec-items (now (self .entry) .memory)) (as-event event ∷ []) ⌝ }
+    {
+        self.pending = Some(event);
+    }
+
     // Takes over the memory that the step left, and what it will be told next.
     pub fn turn(&mut self, desk: &mut Desk, pending: Option<Pending>)
         ensures { λ _. ⌜ as-machine (now (self .exit)) ≡ told-next (as-machine (now (self .entry))) (vec-items (now (desk .entry) .memory)) (as-pending pending) ⌝ }

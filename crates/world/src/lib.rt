@@ -4,3 +4,4 @@ pub mod letters;
 pub mod hut;
 pub mod acts;
 pub mod steps;
+pub mod world;

@@ -75,13 +75,13 @@ impl Desk {
         Ok(Desk { memory, row: [0; ROW], out })
     }
 
-    // The first bytes of what a step left, so many of them.
-    pub fn text(&self, heap: Global, len: usize) -> Result<Text, AllocError>
-        requires { ⌜ len ≤ 4096 ⌝ }
+    // The first bytes of what a step left, so many of them, or all.
+    pub fn text(&self, heap: Global, len: u64) -> Result<Text, AllocError>
         ensures { λ r. ⌜ made r (λ t. as-text t ≡ take len (vec-items (now (self .entry) .out))) ⌝ }
     {
         let out = self.out.as_slice();
-        Text::copied(heap, &out[0..len])
+        let end = out.len().min(len as usize);
+        Text::copied(heap, &out[0..end])
     }
 }
 
