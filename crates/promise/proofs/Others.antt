@@ -32,7 +32,7 @@ module _ (i j : ℕ) (apart : i ≡ j → ⊥) where
   delivered-other a w =
       on-delivered w (λ u. state u j ≡ state w j) a i (λ _ _ _ _. at-set-other (w .machines) i j _ apart) (λ _. refl) (λ _. refl)
 
-by-each-append : (f : World → ℕ → World) (w : World) (xs ys : List ℕ) → by-each f w (xs ++ ys) ≡ by-each f (by-each f w xs) ys
+pub by-each-append : (f : World → ℕ → World) (w : World) (xs ys : List ℕ) → by-each f w (xs ++ ys) ≡ by-each f (by-each f w xs) ys
 unfolding by-each
 by-each-append f w [] ys = refl
 by-each-append f w (x ∷ xs) ys = by-each-append f (f w x) xs ys

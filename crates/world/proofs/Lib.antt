@@ -4,3 +4,4 @@ mod Mores
 mod Stepping
 mod Huts
 mod Acting
+mod Posting

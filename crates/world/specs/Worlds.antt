@@ -9,12 +9,9 @@ use Rattle.sums.specs.Sums.{each, Gauges}
 use Rattle.machine.specs.Run as run
 use Rattle.machine.specs.Run.{acted, faulty}
 use Rattle.rows.specs.Walls.{as-wall}
-use Rattle.world.specs.declared.post.Letter.{Letter}
 use Rattle.world.specs.declared.world.World.{World}
-use Rattle.world.specs.Played.{as-machine, as-text}
-
-abbrev pub as-letter : Letter → run.Letter
-as-letter l = record { sender = l .sender; reader = l .reader; text = as-text (l .text) }
+use Rattle.world.specs.Played.{as-machine}
+use Rattle.world.specs.Posts.{as-letter}
 
 abbrev pub as-world : World → run.World
 as-world w = record {

@@ -4,4 +4,5 @@ pub mod letters;
 pub mod hut;
 pub mod acts;
 pub mod steps;
+pub mod wires;
 pub mod world;

@@ -2,7 +2,8 @@ use mathlib.Core.Path.{_≡_, refl, sym, ap, ap₂, _∙_}
 use Rattle.std.specs.Of.Vec.{vec-items}
 use Rattle.machine.specs.Run.{set-nth, acted, sends}
 use Rattle.world.specs.Played.{as-machine, as-text}
-use Rattle.world.specs.Worlds.{as-world, as-letter}
+use Rattle.world.specs.Posts.{as-letter}
+use Rattle.world.specs.Worlds.{as-world}
 use Rattle.sums.specs.Sums.{each}
 use Rattle.world.proofs.Eaches.{each-push, each-set}
 use Rattle.world.proofs.Huts.{hut-at}
