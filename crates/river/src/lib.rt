@@ -1,5 +1,11 @@
 // Rivers: what eight gauges read and what happens to their machines, as text and as it is played.
 pub mod model;
+pub mod mistake;
+mod text;
 
+pub use mistake::Mistake;
+pub use mistake::MistakeDisplay;
+pub use mistake::Reason;
+pub use mistake::ReasonDisplay;
 pub use model::Item;
 pub use model::River;
