@@ -1,6 +1,7 @@
 // Rivers: what eight gauges read and what happens to their machines, as text and as it is played.
 pub mod model;
 pub mod mistake;
+mod line;
 mod text;
 
 pub use mistake::Mistake;

@@ -3,9 +3,9 @@ ghost use mathlib.Core.Path.{_≡_};
 ghost use mathlib.Core.List.{[], _∷_};
 ghost use Prim.Native.Nat.{_<_, _≤_};
 ghost use lib.Dec.{eqb};
-ghost use lib.ListN.{length};
+ghost use lib.ListN.{length, getD};
 ghost use Rattle.std.specs.Options.{Cases};
-ghost use Rattle.river.specs.Text.{before, from, lines, words, stops};
+ghost use Rattle.river.specs.Text.{before, digit, from, lines, words, stops};
 ghost use Rattle.river.specs.Text as spec;
 
 // Where a part of the text ends.
@@ -80,6 +80,12 @@ pub(crate) fn word(bytes: &[u8]) -> Option<(&[u8], &[u8])>
         return None;
     }
     Some(cut(solid, Stop::Blank))
+}
+
+pub(crate) fn starts_with_digit(word: &[u8]) -> bool
+    ensures { λ r. ⌜ r ≡ digit (getD (now (word .entry)) 0 0) ⌝ }
+{
+    !word.is_empty() && word[0].is_ascii_digit()
 }
 
 // The number that the digits of a word write, where it is below 2^64.
