@@ -1,7 +1,10 @@
 // Rivers: what eight gauges read and what happens to their machines, as text and as it is played.
 pub mod model;
 pub mod mistake;
+mod draft;
 mod line;
+mod parser;
+mod take;
 mod text;
 
 pub use mistake::Mistake;
@@ -10,3 +13,5 @@ pub use mistake::Reason;
 pub use mistake::ReasonDisplay;
 pub use model::Item;
 pub use model::River;
+pub use parser::parse;
+pub use parser::parse_within;
