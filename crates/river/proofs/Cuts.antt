@@ -1,15 +1,15 @@
 -- Parts of a text. Assumes nothing.
 use mathlib.Core.Path.{_≡_, refl, sym, ap, _∙_}
-use mathlib.Core.Bool.{Bool, true, false, cond, not}
-use mathlib.Core.List.{List, [], _∷_, _++_}
+use mathlib.Core.Bool.{Bool, true, false, not}
+use mathlib.Core.List.{List, [], _∷_}
 use Prim.Native.Nat.{ℕ, _+_, _≤_, _<_}
 use native.Mathlib.Omega.{arith}
 use lib.Dec.{eqb}
-use lib.ListN.{length, getD, take, drop}
-use Rattle.std.proofs.shelf.Lists.{drop-more, take-more, drop-all, append-assoc, append-nil}
+use lib.ListN.{length, getD, drop}
+use Rattle.std.proofs.shelf.Lists.{drop-more, drop-all}
 use mathlib.Core.Logic.{⊎-elim}
 use Rattle.std.proofs.shelf.Tests.{cond-true, cond-false, cond-both, cases-bool, not-from-false}
-use Rattle.river.specs.Text.{blank, before, from, in-front, lines, word-ends, words}
+use Rattle.river.specs.Text.{blank, before, from, in-front, lines, words}
 
 module _ (stop : ℕ → Bool) where
   -- a byte that does not stop is passed
@@ -75,7 +75,7 @@ words-cut (b ∷ c ∷ cs) h e =
     let back : from blank (b ∷ c ∷ cs) ≡ from blank (c ∷ cs) = cond-false _ _ _ e in
     ⊎-elim
     (λ f. let only : before blank (b ∷ c ∷ cs) ≡ b ∷ [] = front ∙ ap (λ l. b ∷ l) (cond-true _ _ _ f) in
-        let rest : from blank (b ∷ c ∷ cs) ≡ c ∷ cs = back ∙ cond-true _ _ _ f in
-        cond-false _ _ _ e ∙ cond-true _ _ _ f ∙ (λ i. sym only i ∷ words (sym rest i)))
+    let rest : from blank (b ∷ c ∷ cs) ≡ c ∷ cs = back ∙ cond-true _ _ _ f in
+    cond-false _ _ _ e ∙ cond-true _ _ _ f ∙ (λ i. sym only i ∷ words (sym rest i)))
     (λ f. cond-false _ _ _ e ∙ cond-false _ _ _ f ∙ ap (in-front b) (words-cut (c ∷ cs) (omega arith) f) ∙ (λ i. sym front i ∷ words (sym back i)))
     (cases-bool (blank c))

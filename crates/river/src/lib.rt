@@ -1,8 +1,8 @@
 // Rivers: what eight gauges read and what happens to their machines, as text and as it is played.
-pub mod model;
-pub mod mistake;
 mod draft;
 mod line;
+pub mod mistake;
+pub mod model;
 mod parser;
 mod take;
 mod text;

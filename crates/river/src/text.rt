@@ -1,7 +1,7 @@
 // Readers of bytes: lines, words and numbers. A reader answers what it read and what is left.
 ghost use mathlib.Core.Path.{_≡_};
 ghost use mathlib.Core.List.{[], _∷_};
-ghost use Prim.Native.Nat.{_<_, _≤_};
+ghost use Prim.Native.Nat.{_<_};
 ghost use lib.Dec.{eqb};
 ghost use lib.ListN.{length, getD};
 ghost use Rattle.std.specs.Options.{Cases};
@@ -49,7 +49,7 @@ fn cut(bytes: &[u8], stop: Stop) -> (&[u8], &[u8])
 }
 
 // The first line and what follows it, or none where nothing is left.
-pub(crate) fn line(bytes: &[u8]) -> Option<(&[u8], &[u8])>
+pub(crate) fn first_line(bytes: &[u8]) -> Option<(&[u8], &[u8])>
     ensures parts { λ r. ⌜ Cases r (lines (now (bytes .entry)) ≡ []) (λ p. lines (now (bytes .entry)) ≡ now (p .0) ∷ lines (now (p .1))) ⌝ }
     ensures shorter { λ r. ⌜ Cases r (length (now (bytes .entry)) ≡ 0) (λ p. length (now (p .1)) < length (now (bytes .entry))) ⌝ }
 {
@@ -72,7 +72,7 @@ pub(crate) fn uncommented(line: &[u8]) -> &[u8]
 }
 
 // The first word and what follows it, or none where only blanks are left.
-pub(crate) fn word(bytes: &[u8]) -> Option<(&[u8], &[u8])>
+pub(crate) fn first_word(bytes: &[u8]) -> Option<(&[u8], &[u8])>
     ensures { λ r. ⌜ Cases r (words (now (bytes .entry)) ≡ []) (λ p. words (now (bytes .entry)) ≡ now (p .0) ∷ words (now (p .1))) ⌝ }
 {
     let (_, solid) = cut(bytes, Stop::Solid);

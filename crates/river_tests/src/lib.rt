@@ -2,8 +2,8 @@
 #[cfg(test)]
 mod tests {
     use river::Item;
-    use river::ItemPartialEq;
     use river::ItemDebug;
+    use river::ItemPartialEq;
     use river::MistakeDebug;
     use river::MistakeDisplay;
     use river::parse;
@@ -12,27 +12,51 @@ mod tests {
 
     // A text, and what is said of it where a gauge has at most two readings.
     const BAD: [(&str, &str); 22] = [
-        ("gague 1", "line 1: a line does not begin with this word"),
+        ("gague 1", "line 1: no line begins with this word"),
         ("\n# a comment\ngauge # 1", "line 3: a number is missing"),
-        ("gauge one", "line 1: this is no number below 2^64"),
-        ("happens\npoke 18446744073709551616", "line 2: this is no number below 2^64"),
-        ("gauge 0\n12x 1 1", "line 2: this is no number below 2^64"),
+        ("gauge one", "line 1: this is not a number below 2^64"),
+        (
+            "happens\npoke 18446744073709551616",
+            "line 2: this is not a number below 2^64",
+        ),
+        (
+            "gauge 0\n12x 1 1",
+            "line 2: this is not a number below 2^64",
+        ),
         ("happens now", "line 1: there is a word too many"),
         ("gauge 8", "line 1: there is no such gauge"),
         ("happens\nbrings 0 8", "line 2: there is no such machine"),
-        ("happens\nworks 1 4294967297", "line 2: these are too many acts"),
+        (
+            "happens\nworks 1 4294967297",
+            "line 2: these are too many acts",
+        ),
         ("happens\ncalm 65537 1", "line 2: these are too many rounds"),
-        ("gauge 1\n4611686018427387904 0 0", "line 2: this time is too large"),
+        (
+            "gauge 1\n4611686018427387904 0 0",
+            "line 2: this time is too large",
+        ),
         ("gauge 1\n0 1024 0", "line 2: there is no such place"),
         ("gauge 1\n0 0 4294967296", "line 2: this value is too large"),
-        ("gauge 1\n5 0 0\n4 0 0", "line 3: this time is before the one above it"),
-        ("gauge 1\nhappens\ngauge 1", "line 3: this gauge was named before"),
-        ("happens\n\nhappens", "line 3: what happens was told before"),
+        (
+            "gauge 1\n5 0 0\n4 0 0",
+            "line 3: this time is before the one above it",
+        ),
+        (
+            "gauge 1\nhappens\ngauge 1",
+            "line 3: this gauge was named before",
+        ),
+        ("happens\n\nhappens", "line 3: `happens` was given before"),
         ("1 2 3", "line 1: this reading belongs to no gauge"),
-        ("gauge 1\nhappens\n1 2 3", "line 3: this reading belongs to no gauge"),
-        ("falls 1", "line 1: this does not stand below `happens`"),
-        ("gauge 3\nfalls 1", "line 2: this does not stand below `happens`"),
-        ("gauge 2\n1 1 1\n1 1 1\n1 1 1", "line 4: this gauge has too many readings"),
+        (
+            "gauge 1\nhappens\n1 2 3",
+            "line 3: this reading belongs to no gauge",
+        ),
+        ("falls 1", "line 1: this belongs below `happens`"),
+        ("gauge 3\nfalls 1", "line 2: this belongs below `happens`"),
+        (
+            "gauge 2\n1 1 1\n1 1 1\n1 1 1",
+            "line 4: this gauge has too many readings",
+        ),
         ("gauge 2\n1 1 1\n2 2", "line 3: a number is missing"),
     ];
 
@@ -52,7 +76,8 @@ mod tests {
     #[test]
     fn a_river_is_read(rt: LibcRuntime) -> Result<(), Fail> {
         let heap = rt.alloc();
-        let text = "# spring\r\ngauge 7 # the last\n 100 1023 4294967295\n\t100 0 7\nhappens\nworks 0 4294967296\npoke 7\ngauge 0\ngauge 1\n0 0 0";
+        let text =
+            "# spring\r\ngauge 7 # the last\n 100 1023 4294967295\n\t100 0 7\r\nhappens\nworks 0 4294967296\npoke 7\ngauge 0\ngauge 1\n0 0 0";
         let river = parse(heap, text)?;
         check(river.gauges.len() == 8)?;
         check(river.gauges[7].len() == 2)?;

@@ -1,12 +1,11 @@
-use mathlib.Core.Path.{_≡_, refl, sym, ap, _∙_}
-use mathlib.Core.List.{List}
-use Prim.Native.Nat.{ℕ, _+_, _*_, _-_, _<_, _≤_}
+use mathlib.Core.Path.{_≡_, sym, ap, _∙_}
+use Prim.Native.Nat.{_+_, _*_, _-_, _<_}
 use native.Mathlib.Omega.{arith}
-use lib.ListN.{length, getD, drop}
+use lib.ListN.{getD, drop}
 use Rattle.std.proofs.shelf.Lists.{nil-from-length}
-use Rattle.std.proofs.shelf.Tests.{eqb-true, eqb-false}
+use Rattle.std.proofs.shelf.Tests.{eqb-true}
 use Rattle.river.specs.Text.{decimal}
-use Rattle.river.proofs.Numbers.{read-on, Sofar, whole, read-on-bad, read-on-large, read-on-more, read-on-end}
+use Rattle.river.proofs.Numbers.{read-on, whole, read-on-bad, read-on-large, read-on-more, read-on-end}
 use Rattle.river.proofs.text.decimal.Needs as need
 
 pub returns-then-is-empty : need.returns-then-is-empty
@@ -16,20 +15,20 @@ returns-then-is-empty c = sym (ap decimal (nil-from-length (c .args .word .now) 
 pub returns-then-not-is-ascii-digit : need.returns-then-not-is-ascii-digit
 returns-then-not-is-ascii-digit c =
     let bs = c .args .word .now in
-    let so : Sofar bs (c .loop-byte .value) (c .loop-byte .byte-index) = record { some = omega (arith, eqb-false _ 0 (sym (c .if-is-empty .ensures tt))); left = c .loop-byte .inv .1 } in
-    whole so (read-on-bad (c .loop-byte .value) bs (c .loop-byte .byte-index) (c .loop-byte-test .taken) (sym (c .if-not-is-ascii-digit .ensures tt .value)))
+    whole bs (c .loop-byte .value) (c .loop-byte .byte-index) (sym (c .if-is-empty .ensures tt)) (c .loop-byte .inv .1)
+    (read-on-bad (c .loop-byte .value) bs (c .loop-byte .byte-index) (c .loop-byte-test .taken) (sym (c .if-not-is-ascii-digit .ensures tt .value)))
 
 pub returns-in-Break-checked-mul : need.returns-in-Break-checked-mul
 returns-in-Break-checked-mul c =
     let bs = c .args .word .now in
-    let so : Sofar bs (c .loop-byte .value) (c .loop-byte .byte-index) = record { some = omega (arith, eqb-false _ 0 (sym (c .if-is-empty .ensures tt))); left = c .loop-byte .inv .1 } in
-    c .from-residual .ensures ∙ whole so (read-on-large (c .loop-byte .value) bs (c .loop-byte .byte-index) (c .loop-byte-test .taken) (omega (arith, c .in-Break-checked-mul .ensures tt)))
+    c .from-residual .ensures ∙ whole bs (c .loop-byte .value) (c .loop-byte .byte-index) (sym (c .if-is-empty .ensures tt)) (c .loop-byte .inv .1)
+    (read-on-large (c .loop-byte .value) bs (c .loop-byte .byte-index) (c .loop-byte-test .taken) (omega (arith, c .in-Break-checked-mul .ensures tt)))
 
 pub returns-in-Break-value : need.returns-in-Break-value
 returns-in-Break-value c =
     let bs = c .args .word .now in
-    let so : Sofar bs (c .loop-byte .value) (c .loop-byte .byte-index) = record { some = omega (arith, eqb-false _ 0 (sym (c .if-is-empty .ensures tt))); left = c .loop-byte .inv .1 } in
-    c .from-residual-in-Break-value .ensures ∙ whole so (read-on-large (c .loop-byte .value) bs (c .loop-byte .byte-index) (c .loop-byte-test .taken) (omega (arith, c .in-Break-value .ensures tt, c .in-Continue-checked-mul .ensures tt)))
+    c .from-residual-in-Break-value .ensures ∙ whole bs (c .loop-byte .value) (c .loop-byte .byte-index) (sym (c .if-is-empty .ensures tt)) (c .loop-byte .inv .1)
+    (read-on-large (c .loop-byte .value) bs (c .loop-byte .byte-index) (c .loop-byte-test .taken) (omega (arith, c .in-Break-value .ensures tt, c .in-Continue-checked-mul .ensures tt)))
 
 pub loop-byte-again : need.loop-byte-again
 loop-byte-again c =
@@ -43,5 +42,5 @@ loop-byte-again c =
 pub returns : need.returns
 returns c =
     let bs = c .args .word .now in
-    let so : Sofar bs (c .loop-byte .value) (c .loop-byte .byte-index) = record { some = omega (arith, eqb-false _ 0 (sym (c .if-is-empty .ensures tt))); left = c .loop-byte .inv .1 } in
-    whole so (read-on-end (c .loop-byte .value) bs (c .loop-byte .byte-index) (omega arith))
+    whole bs (c .loop-byte .value) (c .loop-byte .byte-index) (sym (c .if-is-empty .ensures tt)) (c .loop-byte .inv .1)
+    (read-on-end (c .loop-byte .value) bs (c .loop-byte .byte-index) (omega arith))

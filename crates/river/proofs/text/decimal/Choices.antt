@@ -1,5 +1,5 @@
 use mathlib.Core.Path.{_≡_}
-use Prim.Native.Nat.{_<_, _^_}
+use Prim.Native.Nat.{_<_}
 use lib.ListN.{drop}
 use Rattle.river.proofs.Numbers.{read-on}
 use Rattle.river.proofs.text.decimal.Given as given

@@ -1,14 +1,14 @@
-use mathlib.Core.Path.{_≡_, refl, sym, ap, subst, _∙_}
+use mathlib.Core.Path.{_≡_, sym, ap, _∙_}
 use mathlib.Core.Bool.{false}
-use mathlib.Core.List.{[], _∷_}
+use mathlib.Core.List.{_∷_}
 use Prim.Native.Nat.{_<_}
 use native.Mathlib.Omega.{arith}
 use lib.ListN.{length, getD}
 use Rattle.std.proofs.shelf.Lists.{nil-from-length}
 use Rattle.std.proofs.shelf.Tests.{eqb-true, eqb-false}
-use Rattle.river.specs.Text.{words, before, from, blank}
+use Rattle.river.specs.Text.{words, from, blank}
 use Rattle.river.proofs.Cuts.{solid, words-solid, words-cut, first-solid}
-use Rattle.river.proofs.text.word.Needs as need
+use Rattle.river.proofs.text.first_word.Needs as need
 
 pub returns-then-is-empty : need.returns-then-is-empty
 unfolding words
