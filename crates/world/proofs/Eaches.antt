@@ -1,4 +1,4 @@
--- Lists taken over element by element: their lengths, their elements, and one of them set.
+-- Lists taken over element by element, by the definitions' own ways to look into a list and to set an element.
 use mathlib.Core.Path.{_≡_, refl, sym, ap, _∙_}
 use mathlib.Core.Bool.{true, false}
 use mathlib.Core.List.{List, [], _∷_, _++_}
@@ -12,22 +12,11 @@ use Rattle.sums.specs.Readings.{as-reading, as-row}
 use Rattle.sums.specs.declared.reading.Reading.{Reading}
 use Rattle.machine.specs.Run.{Event, comes, first-reading, set-nth, nth-row, so-many-of}
 
-module _ {A B : Type 0} (f : A → B) where
-  pub length-each : (xs : List A) → length (each f xs) ≡ length xs
-  unfolding each
-  length-each [] = refl
-  length-each (x ∷ xs) = ap suc (length-each xs)
-
-  pub each-push : (xs : List A) (x : A) → each f (xs ++ x ∷ []) ≡ each f xs ++ f x ∷ []
-  unfolding each
-  each-push [] x = refl
-  each-push (y ∷ xs) x = ap (λ l. f y ∷ l) (each-push xs x)
-
-  pub each-set : (xs : List A) (i : ℕ) (x : A) → each f (set xs i x) ≡ set-nth (each f xs) i (f x)
-  unfolding each set-nth
-  each-set [] i x = refl
-  each-set (y ∷ xs) zero x = refl
-  each-set (y ∷ xs) (suc i) x = ap (λ l. f y ∷ l) (each-set xs i x)
+pub each-set-nth : {A B : Type 0} (f : A → B) (xs : List A) (i : ℕ) (x : A) → each f (set xs i x) ≡ set-nth (each f xs) i (f x)
+unfolding each set-nth
+each-set-nth f [] i x = refl
+each-set-nth f (y ∷ xs) zero x = refl
+each-set-nth f (y ∷ xs) (suc i) x = ap (λ l. f y ∷ l) (each-set-nth f xs i x)
 
 pub row-at : {A B : Type 0} (f : A → List B) (xs : List A) (i : ℕ) (d : A) → i < length xs → nth-row (each f xs) i ≡ f (getD xs i d)
 unfolding each nth-row

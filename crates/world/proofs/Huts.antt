@@ -13,7 +13,8 @@ use Rattle.machine.specs.Run as run
 use Rattle.machine.specs.Run.{machine, machine-at, set-nth, with-machine, next, poked}
 use Rattle.world.specs.Played.{as-machine, told-next}
 use Rattle.world.specs.declared.hut.Hut.{Hut}
-use Rattle.world.proofs.Eaches.{each-set, length-each, set-past}
+use Rattle.sums.proofs.Eaches.{length-each}
+use Rattle.world.proofs.Eaches.{each-set-nth, set-past}
 
 machine-is : (hs : List Hut) (i : ℕ) (d : Hut) → i < length hs → machine-at (each as-machine hs) i ≡ as-machine (getD hs i d)
 unfolding each machine-at
@@ -32,7 +33,7 @@ abbrev pub huts-world : List Hut → run.World → run.World
 huts-world hs w = record { machines = each as-machine hs; wires = w .wires; told = w .told; fault = w .fault }
 
 pub hut-set : (hs : List Hut) (w : run.World) (i : ℕ) (h : Hut) → huts-world (set hs i h) w ≡ with-machine (huts-world hs w) i (as-machine h)
-hut-set hs w i h = ap (λ ms. record { machines = ms; wires = w .wires; told = w .told; fault = w .fault }) (each-set as-machine hs i h)
+hut-set hs w i h = ap (λ ms. record { machines = ms; wires = w .wires; told = w .told; fault = w .fault }) (each-set-nth as-machine hs i h)
 
 -- what a hut that is lent or read says of its machine
 pub hut-at : (huts : Vec Hut Global) (i : ℕ) (h : Hut) → i < vec-len huts → h ≡ getD (vec-items huts) i h → machine-at (each as-machine (vec-items huts)) i ≡ as-machine h

@@ -5,11 +5,12 @@ use lib.ListN.{length}
 use Rattle.std.specs.Of.Vec.{vec-items}
 use Rattle.sums.specs.Sums.{each}
 use Rattle.world.specs.Played.{as-text}
-use Rattle.world.proofs.Eaches.{each-set, length-each, set-past}
+use Rattle.sums.proofs.Eaches.{length-each}
+use Rattle.world.proofs.Eaches.{each-set-nth, set-past}
 use Rattle.world.proofs.acts.put.Needs as need
 
 pub returns-then-at-len : need.returns-then-at-len
-returns-then-at-len c = each-set as-text _ _ _
+returns-then-at-len c = each-set-nth as-text _ _ _
 
 pub returns-else-at-len : need.returns-else-at-len
 returns-else-at-len c =

@@ -7,7 +7,8 @@ use Rattle.sums.specs.Sums.{each}
 use Rattle.machine.specs.Run.{nth-row}
 use Rattle.world.specs.Played.{as-text}
 use Rattle.std.proofs.shelf.Results.{made-weaker}
-use Rattle.world.proofs.Eaches.{length-each, row-at, row-past}
+use Rattle.sums.proofs.Eaches.{length-each}
+use Rattle.world.proofs.Eaches.{row-at, row-past}
 use Rattle.world.proofs.acts.text_of.Needs as need
 
 pub returns-then-at-len : need.returns-then-at-len

@@ -5,7 +5,8 @@ use native.Mathlib.Numerals.{add-one}
 use Rattle.sums.specs.Sums.{each}
 use Rattle.machine.specs.Run.{so-many-of}
 use Rattle.world.specs.Played.{as-text}
-use Rattle.world.proofs.Eaches.{each-push, so-many-push}
+use Rattle.sums.proofs.Eaches.{each-push}
+use Rattle.world.proofs.Eaches.{so-many-push}
 use Rattle.world.proofs.steps.drawers.Needs as need
 
 pub loop-holds : need.loop-holds

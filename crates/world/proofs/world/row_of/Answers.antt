@@ -11,7 +11,8 @@ use Rattle.sums.specs.Sums as given
 use Rattle.sums.specs.Readings.{as-row, as-gauges}
 use Rattle.sums.specs.declared.reading.Reading.{Reading}
 use mathlib.Core.List.{List}
-use Rattle.world.proofs.Eaches.{length-each, row-at, row-past}
+use Rattle.sums.proofs.Eaches.{length-each}
+use Rattle.world.proofs.Eaches.{row-at, row-past}
 use Rattle.world.proofs.world.row_of.Needs as need
 
 abbrev row : Vec Reading Global → List given.Reading

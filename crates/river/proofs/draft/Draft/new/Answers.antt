@@ -1,4 +1,7 @@
+use mathlib.Core.Path.{ap}
 use native.Mathlib.Omega.{arith}
+use Rattle.sums.specs.Sums.{each}
+use Rattle.sums.specs.Readings.{as-gauges}
 use Rattle.std.specs.Of.Vec.{vec-items}
 use Rattle.river.proofs.Rows.{rows-more}
 use Rattle.river.proofs.draft.Draft.new.Needs as need
@@ -9,3 +12,7 @@ loop-again c =
       omega (arith, pushed .len),
       rows-more (vec-items (c .push .last .self)) (vec-items (c .loop .gauges)) (c .new .result) (c .loop .counter) (pushed .items) (c .new .ensures .items) (c .loop .inv .1),
     )
+
+pub loop-holds : need.loop-holds
+unfolding each
+loop-holds c = (c .new-gauges .ensures .len, ap as-gauges (c .new-gauges .ensures .items))

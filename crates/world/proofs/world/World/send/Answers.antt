@@ -5,7 +5,8 @@ use Rattle.world.specs.Played.{as-machine, as-text}
 use Rattle.world.specs.Posts.{as-letter}
 use Rattle.world.specs.Worlds.{as-world}
 use Rattle.sums.specs.Sums.{each}
-use Rattle.world.proofs.Eaches.{each-push, each-set}
+use Rattle.sums.proofs.Eaches.{each-push}
+use Rattle.world.proofs.Eaches.{each-set-nth}
 use Rattle.world.proofs.Huts.{hut-at}
 use Rattle.world.proofs.Acting.{acted-sends, sends-wrong}
 use Rattle.world.proofs.world.World.send.Needs as need
@@ -23,7 +24,7 @@ returns c = λ gs.
     let t = c .in-Continue-text .text in
     let is = hut-at (w .huts) i h (c .pre) (c .index-mut .ensures .value) in
     ap₂ (λ ms ls. record { machines = ms; wires = ls; told = as-world w .told; fault = w .fault })
-        (each-set as-machine (vec-items (w .huts)) i (c .turn .last .self) ∙ ap (set-nth (as-world w .machines) i) (c .turn .ensures))
+        (each-set-nth as-machine (vec-items (w .huts)) i (c .turn .last .self) ∙ ap (set-nth (as-world w .machines) i) (c .turn .ensures))
         (ap (each as-letter) (c .in-Continue-push .ensures tt .items) ∙ each-push as-letter (vec-items (w .wires)) _)
     ∙ sym (acted-sends gs (as-world w) i m (as-machine h) is (c .args .reader) (as-text t) (c .if-reader-ge-MACHINES .left) (λ e. c .if-reader-sender .left (sym e)) (t .fits))
     ∙ ap (λ bs. acted gs (as-world w) i m (sends (c .args .reader) bs)) (c .in-Continue-text .ensures tt)

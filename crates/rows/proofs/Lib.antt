@@ -1,0 +1,3 @@
+pub mod Summed
+pub mod Walls
+pub mod Compared
