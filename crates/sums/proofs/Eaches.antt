@@ -1,4 +1,4 @@
--- Lists taken over element by element: their lengths, their elements, one more and one set.
+-- Lists taken over element by element: their lengths, their elements, more of them and one set.
 use mathlib.Core.Path.{_≡_, refl, ap}
 use mathlib.Core.List.{List, [], _∷_, _++_}
 use Prim.Native.Nat.{ℕ, zero, suc, _<_}
@@ -12,10 +12,14 @@ module _ {A B : Type 0} (f : A → B) where
   length-each [] = refl
   length-each (x ∷ xs) = ap suc (length-each xs)
 
+  pub each-append : (xs ys : List A) → each f (xs ++ ys) ≡ each f xs ++ each f ys
+  unfolding each
+  each-append [] ys = refl
+  each-append (x ∷ xs) ys = ap (λ l. f x ∷ l) (each-append xs ys)
+
   pub each-push : (xs : List A) (x : A) → each f (xs ++ x ∷ []) ≡ each f xs ++ f x ∷ []
   unfolding each
-  each-push [] x = refl
-  each-push (y ∷ xs) x = ap (λ l. f y ∷ l) (each-push xs x)
+  each-push xs x = each-append xs (x ∷ [])
 
   pub each-at : (xs : List A) (i : ℕ) (d : A) (e : B) → i < length xs → getD (each f xs) i e ≡ f (getD xs i d)
   unfolding each

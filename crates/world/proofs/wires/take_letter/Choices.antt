@@ -8,4 +8,4 @@ use Rattle.world.specs.Posts.{as-letter}
 use Rattle.world.proofs.wires.take_letter.Given as given
 
 abbrev pub Inv-loop-k : given.InvT-loop-k
-Inv-loop-k l = first-between (l .i) (l .j) (each as-letter (take (l .k) (vec-items (l .wires)))) ≡ []
+Inv-loop-k l = (l .wires ≡ l .entry .wires) × (first-between (l .i) (l .j) (each as-letter (take (l .k) (vec-items (l .wires)))) ≡ [])
