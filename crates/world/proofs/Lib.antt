@@ -5,3 +5,4 @@ mod Stepping
 mod Huts
 mod Acting
 mod Posting
+mod Turning

@@ -6,3 +6,4 @@ pub mod acts;
 pub mod steps;
 pub mod wires;
 pub mod world;
+pub mod turns;

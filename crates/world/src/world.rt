@@ -58,7 +58,7 @@ impl World {
     }
 
     // What machine i does, by what its step told; a fault where there is no such act.
-    fn act(&mut self, heap: Global, gauges: &[Vec<Reading>], i: usize, told: Told) -> Result<(), AllocError>
+    pub fn act(&mut self, heap: Global, gauges: &[Vec<Reading>], i: usize, told: Told) -> Result<(), AllocError>
         requires { ⌜ i < vec-len (now self .huts) ⌝ }
         ensures { λ r. ⌜ made r (λ _. Acted (as-gauges (now (gauges .entry))) (as-world (now (self .entry))) i (vec-items (now (self .entry) .desk .memory)) (act-back told (now (self .entry) .desk .row) (vec-items (now (self .entry) .desk .out))) (as-world (now (self .exit)))) ⌝ }
     {
