@@ -1,4 +1,5 @@
 pub mod Sums
+pub mod Parts
 pub mod Laws
 pub mod Add
 pub mod Readings
