@@ -1,3 +1,4 @@
 pub mod Laws
 pub mod Rising
 pub mod Parts
+pub mod Places

@@ -4,3 +4,4 @@ pub mod Laws
 pub mod Add
 pub mod Readings
 pub mod Worked
+pub mod Cells
