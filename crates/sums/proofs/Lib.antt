@@ -2,3 +2,5 @@ pub mod Laws
 pub mod Rising
 pub mod Parts
 pub mod Places
+pub mod Digits
+pub mod Overwrites

@@ -5,3 +5,6 @@ pub mod Add
 pub mod Readings
 pub mod Worked
 pub mod Cells
+pub mod Written
+pub mod Digits
+pub mod Numbers
