@@ -4,3 +4,4 @@ pub mod Parts
 pub mod Places
 pub mod Digits
 pub mod Overwrites
+pub mod Columns

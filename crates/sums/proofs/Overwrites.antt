@@ -17,6 +17,11 @@ module _ {A : Type 0} where
   pub putMid-written : (xs : List A) (at k : ℕ) (ys : List A) → length ys ≡ k → putMid at k xs ys ≡ written xs at ys
   putMid-written xs at k ys e = simp (drop-drop, e)
 
+  -- as a write to all from a place on leaves it
+  pub putMid-rest : (xs : List A) (at : ℕ) (ys : List A) → putMid at (length xs - at) xs ys ≡ take at xs ++ ys
+  putMid-rest xs at ys =
+      ap (λ l. take at xs ++ (ys ++ l)) (drop-all (length xs - at) (drop at xs) (simp length-drop (omega arith))) ∙ ap (λ l. take at xs ++ l) (append-nil ys)
+
   pub set-written : (xs : List A) (at : ℕ) (y : A) → at < length xs → set xs at y ≡ written xs at (y ∷ [])
   set-written xs at y lt = set-split xs at y lt ∙ ap (λ k. take at xs ++ y ∷ drop k xs) (sym (add-one at))
 

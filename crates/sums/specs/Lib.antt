@@ -8,3 +8,4 @@ pub mod Cells
 pub mod Written
 pub mod Digits
 pub mod Numbers
+pub mod Pages
