@@ -5,3 +5,4 @@ pub mod Places
 pub mod Digits
 pub mod Overwrites
 pub mod Columns
+pub mod Taken

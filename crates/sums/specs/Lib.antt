@@ -7,5 +7,6 @@ pub mod Worked
 pub mod Cells
 pub mod Written
 pub mod Digits
+pub mod Tables
 pub mod Numbers
 pub mod Pages
