@@ -1,9 +1,9 @@
 -- Numbers and rows of numbers as bytes: how long they are, that each byte is one, and that what is read is what was written.
-use mathlib.Core.Path.{_≡_, refl, sym, ap, subst, _∙_}
-use mathlib.Core.Bool.{Bool, true, false}
+use mathlib.Core.Path.{_≡_, refl, sym, ap, _∙_}
+use mathlib.Core.Bool.{Bool, true}
 use mathlib.Core.List.{List, [], _∷_, _++_, append-assoc, append-nil}
 use Prim.Native.Nat.{ℕ, zero, suc, _+_, _*_, _/_, _%_, _^_, _≤_, _<_}
-use native.Mathlib.Nat.{div-div-eq-div-mul, mod-eq-of-lt, one-le-pow, pow-zero, pow-suc, mul-suc, mul-comm, add-zero, mul-zero}
+use native.Mathlib.Nat.{div-div-eq-div-mul, mod-eq-of-lt, one-le-pow, pow-zero, pow-suc, mul-suc}
 use native.Mathlib.Omega.{arith}
 use lib.Arith.{mod-mul}
 use lib.Dec.{ltb, lit<, lit≤}

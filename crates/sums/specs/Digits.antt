@@ -5,6 +5,10 @@ use Prim.Native.Nat.{ℕ, zero, suc, _+_, _*_, _/_, _%_, _^_}
 use lib.Dec.{ltb}
 use lib.ListN.{take, drop}
 
+-- no number has more bytes
+abbrev pub widest : ℕ
+widest = 8
+
 -- a number in so many bytes; of one that does not fit, its low bytes
 unfoldable pub digits : (width n : ℕ) → List ℕ
 digits zero n = []

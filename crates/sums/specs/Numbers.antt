@@ -10,18 +10,18 @@ use Rattle.std.specs.declared.option.Option.the-variants.{Some, None}
 use Rattle.std.specs.declared.result.Result.{Result}
 use Rattle.std.specs.declared.result.Result.the-variants.{Ok, Err}
 use Rattle.std.specs.Results.{isOk}
-use Rattle.sums.specs.Digits.{value, row-bytes}
+use Rattle.sums.specs.Digits.{widest, value, row-bytes}
 use Rattle.sums.specs.declared.numbers.RowError.{RowError}
 use Rattle.sums.specs.declared.numbers.RowError.the-variants.{TooWide, TooShort}
 
--- the number in the first bytes, and the bytes behind it; none where these are too few, or more than eight are asked for
+-- the number in the first bytes, and the bytes behind it; none where these are too few, or more are asked for than a number has
 abbrev pub Number-says : (width : ℕ) (bytes : List ℕ) → Option (ℕ × List ℕ) → Type 0
-Number-says w bs None = leb w 8 && leb w (length bs) ≡ false
-Number-says w bs (Some p) = (w ≤ 8) × (p .0 ≡ value (take w bs)) × (p .1 ≡ drop w bs) × (length (p .1) + w ≡ length bs)
+Number-says w bs None = leb w widest && leb w (length bs) ≡ false
+Number-says w bs (Some p) = (w ≤ widest) × (p .0 ≡ value (take w bs)) × (p .1 ≡ drop w bs) × (length (p .1) + w ≡ length bs)
 
--- a row of numbers is written where none is wider than eight bytes and there are bytes enough
+-- a row of numbers is written where there are such numbers, and bytes enough
 abbrev pub row-answer : (width : ℕ) (numbers out : List ℕ) → Result (Unit {0}) RowError
-row-answer w ns out = cond (leb w 8) (cond (leb (w * length ns) (length out)) (Ok tt) (Err TooShort)) (Err TooWide)
+row-answer w ns out = cond (leb w widest) (cond (leb (w * length ns) (length out)) (Ok tt) (Err TooShort)) (Err TooWide)
 
 abbrev pub row-over : (width : ℕ) (numbers out : List ℕ) → List ℕ
 row-over w ns out = row-bytes w ns ++ drop (w * length ns) out

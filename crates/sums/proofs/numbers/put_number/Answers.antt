@@ -2,7 +2,7 @@ use mathlib.Core.Path.{_≡_, ap, _∙_}
 use Prim.Native.Nat.{_-_}
 use native.Mathlib.Omega.{arith}
 use lib.ListN.{length, take}
-use Rattle.sums.specs.Digits.{digits}
+use Rattle.sums.specs.Digits.{widest, digits}
 use Rattle.sums.proofs.Digits.{take-digits, digits-eight}
 use Rattle.sums.proofs.numbers.put_number.Needs as need
 
@@ -12,5 +12,5 @@ returns c =
     let k : n - 0 ≡ n = omega arith in
     c .copy-from-slice .ensures .after
     ∙ ap (λ bs. take (n - 0) bs) (c .to-le-bytes-bytes .ensures ∙ digits-eight (c .args .number))
-    ∙ ap (λ m. take m (digits 8 (c .args .number))) k
-    ∙ take-digits n 8 (c .args .number) (omega arith)
+    ∙ ap (λ m. take m (digits widest (c .args .number))) k
+    ∙ take-digits n widest (c .args .number) (omega arith)
