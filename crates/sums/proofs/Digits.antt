@@ -99,7 +99,7 @@ numbers-back w (n ∷ ns) rest all =
     let e : (digits w n ++ row-bytes w ns) ++ rest ≡ digits w n ++ (row-bytes w ns ++ rest) = append-assoc (digits w n) (row-bytes w ns) rest in
     let first : take w ((digits w n ++ row-bytes w ns) ++ rest) ≡ digits w n = ap (take w) e ∙ take-at (digits w n) (row-bytes w ns ++ rest) w (length-digits w n) in
     let behind : drop w ((digits w n ++ row-bytes w ns) ++ rest) ≡ row-bytes w ns ++ rest =
-        ap (drop w) e ∙ drop-at (digits w n) (row-bytes w ns ++ rest) w (length-digits w n) in
+    ap (drop w) e ∙ drop-at (digits w n) (row-bytes w ns ++ rest) w (length-digits w n) in
     ap (λ x. value x ∷ row-numbers w (length ns) (drop w ((digits w n ++ row-bytes w ns) ++ rest))) first
     ∙ ap (λ x. value (digits w n) ∷ row-numbers w (length ns) x) behind
     ∙ ap (λ x. x ∷ row-numbers w (length ns) (row-bytes w ns ++ rest)) (value-back w n small)

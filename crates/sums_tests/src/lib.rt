@@ -37,10 +37,19 @@ mod tests {
         let mut sums = [5u64; 128];
         let mut counts = [6u64; 128];
         let mut out = [9u8; 1537];
-        check_eq(encode_page(&sums[0..127], &counts, &mut out), Err(PageError::RowLength))?;
-        check_eq(encode_page(&sums, &counts, &mut out[0..1535]), Err(PageError::ByteLength))?;
+        check_eq(
+            encode_page(&sums[0..127], &counts, &mut out),
+            Err(PageError::RowLength),
+        )?;
+        check_eq(
+            encode_page(&sums, &counts, &mut out[0..1535]),
+            Err(PageError::ByteLength),
+        )?;
         check(&out == &[9u8; 1537])?;
-        check_eq(decode_page(&out, &mut sums, &mut counts), Err(PageError::ByteLength))?;
+        check_eq(
+            decode_page(&out, &mut sums, &mut counts),
+            Err(PageError::ByteLength),
+        )?;
         check(&sums == &[5u64; 128])
     }
 

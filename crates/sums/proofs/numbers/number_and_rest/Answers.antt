@@ -15,8 +15,8 @@ returns c =
     let low : List ℕ = c .copy-from-slice .last .self ++ drop (w - 0) (replicate 8 0) in
     let k : w - 0 ≡ w = omega arith in
     let e : low ≡ front ++ replicate (8 - w) 0 =
-        ap (λ bs. bs ++ drop (w - 0) (replicate 8 0)) (c .copy-from-slice .ensures .after ∙ c .split-at .ensures .front)
-        ∙ ap (λ m. front ++ drop m (replicate 8 0)) k ∙ ap (λ zs. front ++ zs) (drop-replicate w 8 0) in
+    ap (λ bs. bs ++ drop (w - 0) (replicate 8 0)) (c .copy-from-slice .ensures .after ∙ c .split-at .ensures .front)
+    ∙ ap (λ m. front ++ drop m (replicate 8 0)) k ∙ ap (λ zs. front ++ zs) (drop-replicate w 8 0) in
     let n : length front ≡ w = length-take-le w (c .args .bytes .now) (c .pre .long) in
     let zeros : List ℕ = replicate (8 - w) 0 in
     let z : length zeros ≡ 8 - w = length-replicate (8 - w) 0 in

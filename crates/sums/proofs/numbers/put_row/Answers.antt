@@ -36,15 +36,16 @@ loop-number-again c =
     let room = part-fits-in w i (length ns) (c .loop-number-test .taken) in
     let k : at + w - at ≡ w = omega arith in
     let part : length (take (at + w - at) (drop at out)) ≡ w =
-        ap (λ m. length (take m (drop at out))) k ∙ length-take-le w (drop at out) (simp length-drop (omega arith)) in
+    ap (λ m. length (take m (drop at out))) k ∙ length-take-le w (drop at out) (simp length-drop (omega arith)) in
     let front : length (row-bytes w (take i ns)) ≡ at =
-        length-row w (take i ns) ∙ ap (λ m. w * m) (length-take-le i ns (omega arith)) ∙ sym (c .loop-number .inv .0) in
-    (omega (arith, mul-add w i 1),
-    ap (λ ys. putMid at (at + w - at) out ys) (c .put-number .ensures ∙ ap (λ m. digits m n) part)
-    ∙ putMid-written out at (at + w - at) (digits w n) (length-digits w n ∙ sym k)
-    ∙ ap (λ l. written l at (digits w n)) (c .loop-number .inv .1)
-    ∙ written-written (c .args .out .now) 0 (row-bytes w (take i ns)) (digits w n) at (omega arith) (omega arith)
-    ∙ ap (λ ys. written (c .args .out .now) 0 ys) (sym (row-more w ns i (c .loop-number-test .taken))))
+    length-row w (take i ns) ∙ ap (λ m. w * m) (length-take-le i ns (omega arith)) ∙ sym (c .loop-number .inv .0) in (
+      omega (arith, mul-add w i 1),
+      ap (λ ys. putMid at (at + w - at) out ys) (c .put-number .ensures ∙ ap (λ m. digits m n) part)
+          ∙ putMid-written out at (at + w - at) (digits w n) (length-digits w n ∙ sym k)
+          ∙ ap (λ l. written l at (digits w n)) (c .loop-number .inv .1)
+          ∙ written-written (c .args .out .now) 0 (row-bytes w (take i ns)) (digits w n) at (omega arith) (omega arith)
+          ∙ ap (λ ys. written (c .args .out .now) 0 ys) (sym (row-more w ns i (c .loop-number-test .taken))),
+    )
 
 pub returns : need.returns
 returns c =

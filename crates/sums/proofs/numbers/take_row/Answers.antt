@@ -34,10 +34,11 @@ loop-number-again c =
     let i = c .loop-number .number-index in
     let bs = c .args .bytes .now in
     let next : w * i + w ≡ w * (i + 1) = omega (arith, mul-add w i 1) in
-    let e = c .number-and-rest-first .ensures in
-    (e .rest ∙ ap (drop w) (c .loop-number .inv .0) ∙ drop-drop w (w * i) bs ∙ ap (λ k. drop k bs) next,
-    row-step w (length (c .args .numbers .now)) i (c .loop-number .numbers) bs (c .loop-number .rest .now) (c .number-and-rest-first .result .1 .now)
-    (c .number-and-rest-first .result .0) (omega arith) (omega arith) (e .number) (e .rest) (c .loop-number .inv .1))
+    let e = c .number-and-rest-first .ensures in (
+      e .rest ∙ ap (drop w) (c .loop-number .inv .0) ∙ drop-drop w (w * i) bs ∙ ap (λ k. drop k bs) next,
+      row-step w (length (c .args .numbers .now)) i (c .loop-number .numbers) bs (c .loop-number .rest .now) (c .number-and-rest-first .result .1 .now)
+          (c .number-and-rest-first .result .0) (omega arith) (omega arith) (e .number) (e .rest) (c .loop-number .inv .1),
+    )
 
 pub returns : need.returns
 unfolding row-numbers
@@ -50,10 +51,10 @@ returns c =
     let none : n - i ≡ 0 = omega arith in
     record {
       numbers =
-        sym
-        (c .loop-number .inv .1
-        ∙ ap (λ k. take i (c .loop-number .numbers) ++ row-numbers w k (c .loop-number .rest .now)) none
-        ∙ append-nil (take i (c .loop-number .numbers))
-        ∙ take-all i (c .loop-number .numbers) (omega arith));
+          sym
+          (c .loop-number .inv .1
+          ∙ ap (λ k. take i (c .loop-number .numbers) ++ row-numbers w k (c .loop-number .rest .now)) none
+          ∙ append-nil (take i (c .loop-number .numbers))
+          ∙ take-all i (c .loop-number .numbers) (omega arith));
       rest = c .loop-number .inv .0 ∙ ap (λ k. drop (w * k) bs) all;
     }
