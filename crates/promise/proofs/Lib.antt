@@ -1,5 +1,3 @@
-pub mod Hours
-pub mod Parts
 pub mod Rows
 pub mod Induction
 pub mod Machines

@@ -7,10 +7,10 @@ use native.Mathlib.Omega.{arith}
 use lib.Dec.{eqb, ltb, leb}
 use lib.ListN.{length, getD, take, drop}
 use Rattle.std.proofs.shelf.Tests.{ltb-true, leb-true, and-parts, and-from}
+use Rattle.sums.specs.Parts.{no-reading}
 use Rattle.sums.specs.Sums.{or, every, any, none-of, all-of, Gauges, Reading, rising, a-reading, gauges-fine}
 use Rattle.machine.specs.Run.{Event, comes, first-reading, nth-row}
 use Rattle.promise.specs.Promise.{others-empty}
-use Rattle.promise.proofs.Hours.{no-reading}
 
 pub none-nil : {A : Type 0} (xs : List A) → none-of xs ≡ true → xs ≡ []
 unfolding none-of

@@ -1,5 +1,12 @@
 pub mod Sums
+pub mod Parts
 pub mod Laws
 pub mod Add
 pub mod Readings
 pub mod Worked
+pub mod Cells
+pub mod Written
+pub mod Digits
+pub mod Tables
+pub mod Numbers
+pub mod Pages

@@ -1,0 +1,13 @@
+use mathlib.Core.Path.{_≡_}
+use mathlib.Core.List.{_++_}
+use Prim.Native.Nat.{_-_, _*_}
+use lib.ListN.{length, take, drop}
+use Rattle.sums.specs.Digits.{row-numbers}
+use Rattle.sums.proofs.numbers.take_row.Given as given
+
+-- what is read, and behind it what is still to be read, is the whole
+abbrev pub Inv-loop-number : given.InvT-loop-number
+Inv-loop-number l =
+    (l .rest ≡ drop (l .width * l .number-index) (l .bytes))
+    × (row-numbers (l .width) (length (l .entry .numbers)) (l .bytes) ≡
+    take (l .number-index) (l .numbers) ++ row-numbers (l .width) (length (l .entry .numbers) - l .number-index) (l .rest))
