@@ -10,6 +10,7 @@ mod text;
 pub use mistake::Mistake;
 pub use mistake::MistakeDebug;
 pub use mistake::MistakeDisplay;
+pub use mistake::MistakeError;
 pub use mistake::MistakePartialEq;
 pub use mistake::Reason;
 pub use mistake::ReasonDebug;

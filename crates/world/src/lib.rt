@@ -7,3 +7,5 @@ pub mod steps;
 pub mod wires;
 pub mod world;
 pub mod turns;
+
+pub use world::World;
