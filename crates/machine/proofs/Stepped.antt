@@ -74,5 +74,5 @@ pub refused : (m : List ℕ) (kind a b c : ℕ) (bytes row out : List ℕ) → (
 unfolding Step-says
 refused m kind a b c bytes row out n =
     ⊎-elim (λ (t : step-fits m kind bytes row out ≡ true). absurd (n (true-fits m kind bytes row out t)))
-        (λ (t : step-fits m kind bytes row out ≡ false). simp t (refl, refl, refl, refl))
-        (cases-bool (step-fits m kind bytes row out))
+    (λ (t : step-fits m kind bytes row out ≡ false). simp t (refl, refl, refl, refl))
+    (cases-bool (step-fits m kind bytes row out))

@@ -7,24 +7,25 @@ use Prim.Native.Nat.{ℕ, zero, suc, _+_, _*_, _-_, _/_, _%_, _≤_, _<_}
 use lib.Dec.{eqb, ltb, leb}
 use lib.ListN.{length, getD, take, drop}
 use Rattle.sums.specs.Sums.{pick, or, every, any, those, each, none-of, Reading, Gauges, Told-sum, is-right, all-told, gauges-fine}
+
 -- what a machine is told
 pub data Event : Type 0 where
-  wakes : ℕ → Event                  -- which one it is; memory is as at the start
-  comes : ℕ → ℕ → ℕ → Event          -- a reading: time, place, value
-  later : Event                      -- none for now: too many aren't let go of yet
-  ends : Event                       -- the gauge has no more
-  letter : ℕ → List ℕ → Event        -- from a machine
-  slot : List ℕ → Event              -- what's in the slot that was asked for
+  wakes : ℕ → Event  -- which one it is; memory is as at the start
+  comes : ℕ → ℕ → ℕ → Event  -- a reading: time, place, value
+  later : Event  -- none for now: too many aren't let go of yet
+  ends : Event  -- the gauge has no more
+  letter : ℕ → List ℕ → Event  -- from a machine
+  slot : List ℕ → Event  -- what's in the slot that was asked for
   next : Event
 
 pub data Act : Type 0 where
-  more : Act                         -- the next reading
-  from : ℕ → Act                     -- readings are to come from a place in the gauge's row on
-  let-go : ℕ → Act                   -- those before a place are never asked for again
-  sends : ℕ → List ℕ → Act           -- to a machine, up to 4,096 bytes
-  keep : ℕ → List ℕ → Act            -- a slot, up to 4,096 bytes
+  more : Act  -- the next reading
+  from : ℕ → Act  -- readings are to come from a place in the gauge's row on
+  let-go : ℕ → Act  -- those before a place are never asked for again
+  sends : ℕ → List ℕ → Act  -- to a machine, up to 4,096 bytes
+  keep : ℕ → List ℕ → Act  -- a slot, up to 4,096 bytes
   recall : ℕ → Act
-  tells : ℕ → ℕ → ℕ → Act            -- an hour, a place, a sum
+  tells : ℕ → ℕ → ℕ → Act  -- an hour, a place, a sum
   rests : Act
 
 pub record Step : Type 0 where
@@ -50,7 +51,7 @@ pub record Letter : Type 0 where
 
 pub record World : Type 0 where
   pub machines : List Machine
-  pub wires : List Letter            -- in the order in which they were sent
+  pub wires : List Letter  -- in the order in which they were sent
   pub told : List Told-sum
   pub fault : Bool
 
@@ -97,9 +98,9 @@ unfoldable pub acted : Gauges → World → ℕ → List ℕ → Act → World
 acted gs w i m more =
     let x : Machine = machine-at (w .machines) i in
     pick (at-end (nth-row gs i) (x .reads-at)) (with-machine w i (machine m (ends ∷ []) (x .reads-at) (x .gone) (x .slots)))
-        (pick (ltb (x .reads-at) (x .gone + 4096))
-            (with-machine w i (machine m (first-reading (drop (x .reads-at) (nth-row gs i)) ∷ []) (suc (x .reads-at)) (x .gone) (x .slots)))
-            (with-machine w i (machine m (later ∷ []) (x .reads-at) (x .gone) (x .slots))))
+    (pick (ltb (x .reads-at) (x .gone + 4096))
+    (with-machine w i (machine m (first-reading (drop (x .reads-at) (nth-row gs i)) ∷ []) (suc (x .reads-at)) (x .gone) (x .slots)))
+    (with-machine w i (machine m (later ∷ []) (x .reads-at) (x .gone) (x .slots))))
 acted gs w i m (from p) =
     let x : Machine = machine-at (w .machines) i in
     pick (leb (x .gone) p && leb p (x .gone + 4096)) (with-machine w i (machine m (next ∷ []) p (x .gone) (x .slots))) (faulty w)
@@ -110,7 +111,7 @@ acted gs w i m (sends j bs) =
     let x : Machine = machine-at (w .machines) i in
     let v : World = with-machine w i (machine m (next ∷ []) (x .reads-at) (x .gone) (x .slots)) in
     pick ((ltb j 8 && not (eqb i j)) && bytes bs)
-        (record { machines = v .machines; wires = (v .wires) ++ record { sender = i; reader = j; text = bs } ∷ []; told = v .told; fault = v .fault }) (faulty w)
+    (record { machines = v .machines; wires = (v .wires) ++ record { sender = i; reader = j; text = bs } ∷ []; told = v .told; fault = v .fault }) (faulty w)
 acted gs w i m (keep s bs) =
     let x : Machine = machine-at (w .machines) i in
     pick (ltb s 256 && bytes bs) (with-machine w i (machine m (next ∷ []) (x .reads-at) (x .gone) (set-nth (x .slots) s bs))) (faulty w)
@@ -174,9 +175,9 @@ fallen e w i =
 
 -- WHAT CAN HAPPEN
 pub data Item : Type 0 where
-  works : ℕ → ℕ → Item               -- a machine does so many acts at most, till it rests
+  works : ℕ → ℕ → Item  -- a machine does so many acts at most, till it rests
   poke : ℕ → Item
-  brings : ℕ → ℕ → Item              -- a letter from the one to the other
+  brings : ℕ → ℕ → Item  -- a letter from the one to the other
   falls : ℕ → Item
 
 unfoldable pub happened : Engine → Gauges → World → Item → World

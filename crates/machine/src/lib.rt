@@ -125,7 +125,16 @@ fn react(memory: &mut [u64], event: Event<'_>, out: &mut [u8]) -> Act
 }
 
 // One step: the event of number `kind` with its values, and what the machine does then.
-pub fn step(memory: &mut [u64], kind: u64, a: u64, b: u64, c: u64, bytes: &[u8], row: &mut [u64], out: &mut [u8]) -> Told
+pub fn step(
+    memory: &mut [u64],
+    kind: u64,
+    a: u64,
+    b: u64,
+    c: u64,
+    bytes: &[u8],
+    row: &mut [u64],
+    out: &mut [u8],
+) -> Told
     ensures { λ r. ⌜ Step-says (now (memory .entry)) kind a b c (now (bytes .entry)) (now (row .entry)) (now (out .entry)) (step-fits (now (memory .entry)) kind (now (bytes .entry)) (now (row .entry)) (now (out .entry))) r (now (memory .exit)) (now (row .exit)) (now (out .exit)) ⌝ }
 {
     if memory.len() != MEMORY || bytes.len() > LETTER || row.len() < ROW || out.len() < LETTER {

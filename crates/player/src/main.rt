@@ -17,7 +17,11 @@ use std::io::Read;
 use world::World;
 
 fn main(rt: LibcRuntime) -> Result<(), AnyError> {
-    rt.report(run(&rt))
+    if let Err(error) = run(&rt) {
+        eprintln!(rt, "player: {error}")?;
+        return Err(error);
+    }
+    Ok(())
 }
 
 fn run(rt: &LibcRuntime) -> Result<(), AnyError> {
@@ -38,7 +42,10 @@ fn read(rt: &LibcRuntime) -> Result<String, AnyError> {
     let mut args = env::args(rt)?;
     let _program = args.next();
     if let Some(path) = args.next() {
-        return Ok(fs::read_to_string(rt, path.as_str())?);
+        return match fs::read_to_string(rt, path.as_str()) {
+            Ok(text) => Ok(text),
+            Err(error) => Err(format!(rt.alloc(), "{path} cannot be read: {error}")?.into()),
+        };
     }
     let mut text = String::new(rt.alloc());
     rt.stdin().read_to_string(&mut text)?;
@@ -99,7 +106,12 @@ impl fmt::Display for Verdict as VerdictDisplay {
 }
 
 // Prints the counts and the verdict; a wall that is wrong is an error.
-fn summary(rt: &LibcRuntime, river: &River, world: &World, comparison: &Comparison) -> Result<(), AnyError> {
+fn summary(
+    rt: &LibcRuntime,
+    river: &River,
+    world: &World,
+    comparison: &Comparison,
+) -> Result<(), AnyError> {
     let mut readings: usize = 0;
     for gauge in river.gauges.iter() {
         readings = readings.saturating_add(gauge.len());
@@ -108,7 +120,10 @@ fn summary(rt: &LibcRuntime, river: &River, world: &World, comparison: &Comparis
     let untold = comparison.untold.len();
     let wrong = comparison.wrong;
     let verdict = Verdict::of(world.fault, wrong, untold);
-    println!(rt, "{readings} readings, {told} rows told, {wrong} wrong, {untold} untold: {verdict}")?;
+    println!(
+        rt,
+        "{readings} readings, {told} rows told, {wrong} wrong, {untold} untold: {verdict}"
+    )?;
     match verdict {
         Verdict::Fault | Verdict::Wrong => Err("the river was not played right".into()),
         Verdict::Untold | Verdict::Right => Ok(()),

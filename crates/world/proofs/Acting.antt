@@ -32,7 +32,7 @@ module _ (gs : Gauges) (w : run.World) (i : ℕ) (m : List ℕ) (x : run.Machine
   unfolding acted
   acted-more =
       rw is (three-ways (with-machine w i) (at-end (nth-row gs i) (x .reads-at)) (ltb (x .reads-at) (x .gone + 4096)) (told-next x m (ends ∷ []))
-          (machine m (first-reading (drop (x .reads-at) (nth-row gs i)) ∷ []) (suc (x .reads-at)) (x .gone) (x .slots)) (told-next x m (later ∷ [])))
+      (machine m (first-reading (drop (x .reads-at) (nth-row gs i)) ∷ []) (suc (x .reads-at)) (x .gone) (x .slots)) (told-next x m (later ∷ [])))
 
   pub acted-from : (p : ℕ) → acted gs w i m (from p) ≡ pick (from-good x p) (with-machine w i (machine m (next ∷ []) p (x .gone) (x .slots))) (faulty w)
   unfolding acted

@@ -104,21 +104,24 @@ module _ (i k : ℕ) (ws now : List Letter) (x : Letter) (is : x ≡ getD now k 
   cut-stays e =
       let take-it : each as-letter (take (k + 1) now) ≡ each as-letter (take k now) ++ as-letter x ∷ [] = each-take as-letter now k x is lt in
       let stay : those (stays i) (as-letter x ∷ []) ≡ as-letter x ∷ [] = rw e in
-      record { same = c .same;
-        front = ap (those (stays i)) take-it ∙ those-append (stays i) (each as-letter (take k now)) (as-letter x ∷ []) ∙ ap₂ (λ a b. a ++ b) (c .front) stay ∙ sym take-it }
+      record {
+        same = c .same;
+        front = ap (those (stays i)) take-it ∙ those-append (stays i) (each as-letter (take k now)) (as-letter x ∷ []) ∙ ap₂ (λ a b. a ++ b) (c .front) stay ∙ sym take-it;
+      }
 
   pub cut-goes : touches i (as-letter x) ≡ true → Cut i k ws (removed now k)
   unfolding those
   cut-goes e =
       let gone : those (stays i) (as-letter x ∷ each as-letter (drop (k + 1) now)) ≡ those (stays i) (each as-letter (drop (k + 1) now)) = rw e in
       let whole : each as-letter now ≡ each as-letter (take k now) ++ as-letter x ∷ each as-letter (drop (k + 1) now) =
-          each-split as-letter now k x is lt ∙ append-assoc (each as-letter (take k now)) (as-letter x ∷ []) (each as-letter (drop (k + 1) now)) in
+      each-split as-letter now k x is lt ∙ append-assoc (each as-letter (take k now)) (as-letter x ∷ []) (each as-letter (drop (k + 1) now)) in
       let left : each as-letter (removed now k) ≡ each as-letter (take k now) ++ each as-letter (drop (k + 1) now) =
-          each-append as-letter (take k now) (drop (suc k) now) ∙ ap (λ n. each as-letter (take k now) ++ each as-letter (drop n now)) (sym (add-one k)) in
+      each-append as-letter (take k now) (drop (suc k) now) ∙ ap (λ n. each as-letter (take k now) ++ each as-letter (drop n now)) (sym (add-one k)) in
       let fits : k ≤ length now = omega arith in
       let first : take k (removed now k) ≡ take k now = take-front now k fits in
       record {
         same = ap (those (stays i)) left ∙ those-append (stays i) (each as-letter (take k now)) (each as-letter (drop (k + 1) now))
             ∙ ap (λ l. those (stays i) (each as-letter (take k now)) ++ l) (sym gone)
             ∙ sym (those-append (stays i) (each as-letter (take k now)) (as-letter x ∷ each as-letter (drop (k + 1) now))) ∙ ap (those (stays i)) (sym whole) ∙ c .same;
-        front = ap (λ l. those (stays i) (each as-letter l)) first ∙ c .front ∙ ap (each as-letter) (sym first) }
+        front = ap (λ l. those (stays i) (each as-letter l)) first ∙ c .front ∙ ap (each as-letter) (sym first);
+      }

@@ -55,7 +55,7 @@ delivered-past hs w i j le = go (first-between i j (w .wires)) refl
         let far : length (each as-machine hs) ≤ j = rw (length-each as-machine hs) le in
         delivered-some (huts-world hs w) i j (machine [] [] 0 0 []) (machine-past hs j le) refl l ls e
         ∙ ap (λ ms. record { machines = ms; wires = without-first i j (w .wires); told = w .told; fault = w .fault })
-            (set-past (each as-machine hs) j (told-next (machine [] [] 0 0 []) [] (letter i (l .text) ∷ [])) far)
+        (set-past (each as-machine hs) j (told-next (machine [] [] 0 0 []) [] (letter i (l .text) ∷ [])) far)
 
 -- a step on the desk and its act are a step of the definitions
 pub went : (gs : Gauges) (w w₁ : run.World) (i : ℕ) (t : Told) (d : Desk) (m : List ℕ) (evs : List run.Event) → machine-at (w .machines) i .memory ≡ m →

@@ -47,9 +47,9 @@ told-next x m evs = machine m evs (x .reads-at) (x .gone) (x .slots)
 abbrev pub after-more : List given.Reading → run.Machine → List ℕ → run.Machine
 after-more rs x m =
     pick (at-end rs (x .reads-at)) (told-next x m (ends ∷ []))
-        (pick (ltb (x .reads-at) (x .gone + 4096))
-            (machine m (first-reading (drop (x .reads-at) rs) ∷ []) (suc (x .reads-at)) (x .gone) (x .slots))
-            (told-next x m (later ∷ [])))
+    (pick (ltb (x .reads-at) (x .gone + 4096))
+    (machine m (first-reading (drop (x .reads-at) rs) ∷ []) (suc (x .reads-at)) (x .gone) (x .slots))
+    (told-next x m (later ∷ [])))
 
 -- an act that may be a fault: whether it is none, and the machine then
 abbrev pub After : Bool → run.Machine → (good : Bool) → run.Machine → run.Machine → Type 0

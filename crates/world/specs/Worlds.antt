@@ -22,7 +22,8 @@ as-world w = record {
   machines = each as-machine (vec-items (w .huts));
   wires = each as-letter (vec-items (w .wires));
   told = as-wall (vec-items (w .told));
-  fault = w .fault }
+  fault = w .fault;
+}
 
 -- the world after what was told of a step: the act, or a fault where the step was refused
 abbrev pub Acted : Gauges → run.World → ℕ → List ℕ → Option run.Act → run.World → Type 0

@@ -13,9 +13,9 @@ ghost use Rattle.world.specs.Played.{as-machine, as-event, as-pending, as-text
 use crate::hut::Desk;
 use crate::hut::Hut;
 use crate::hut::Pending;
+use crate::post::Text;
 use machine::DRAWERS;
 use machine::ROLL;
-use crate::post::Text;
 use std::alloc::AllocError;
 use std::alloc::Global;
 use std::mem;

@@ -13,7 +13,9 @@ impl Text {
     pub fn empty(heap: Global) -> Text
         ensures { λ r. ⌜ vec-items (r .text) ≡ [] ⌝ }
     {
-        Text { text: Vec::new(heap) }
+        Text {
+            text: Vec::new(heap),
+        }
     }
 
     pub fn copied(heap: Global, from: &[u8]) -> Result<Text, AllocError>

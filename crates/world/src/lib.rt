@@ -1,11 +1,11 @@
 // The world that is played, act by act as the definitions have it.
-pub mod post;
-pub mod letters;
-pub mod hut;
-pub mod acts;
-pub mod steps;
-pub mod wires;
-pub mod world;
-pub mod turns;
+mod acts;
+mod hut;
+mod letters;
+mod post;
+mod steps;
+mod turns;
+mod wires;
+mod world;
 
 pub use world::World;

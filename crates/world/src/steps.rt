@@ -12,8 +12,8 @@ ghost use Rattle.world.specs.Played.{as-machine, as-event, as-pending, as-text
 use crate::hut::Desk;
 use crate::hut::Hut;
 use crate::hut::Pending;
-use machine::DRAWERS;
 use crate::post::Text;
+use machine::DRAWERS;
 use machine::LETTER;
 use machine::MEMORY;
 use machine::ROW;
@@ -39,13 +39,55 @@ impl Pending {
     {
         let none: &[u8] = &[];
         match self {
-            Pending::Wakes(i) => Call { kind: 0, a: *i, b: 0, c: 0, bytes: none },
-            Pending::Comes(r) => Call { kind: 1, a: r.time, b: r.place, c: r.value, bytes: none },
-            Pending::Later => Call { kind: 2, a: 0, b: 0, c: 0, bytes: none },
-            Pending::Ends => Call { kind: 3, a: 0, b: 0, c: 0, bytes: none },
-            Pending::Letter(i, t) => Call { kind: 4, a: *i, b: 0, c: 0, bytes: t.text.as_slice() },
-            Pending::Slot(t) => Call { kind: 5, a: 0, b: 0, c: 0, bytes: t.text.as_slice() },
-            Pending::Next => Call { kind: 6, a: 0, b: 0, c: 0, bytes: none },
+            Pending::Wakes(i) => Call {
+                kind: 0,
+                a: *i,
+                b: 0,
+                c: 0,
+                bytes: none,
+            },
+            Pending::Comes(r) => Call {
+                kind: 1,
+                a: r.time,
+                b: r.place,
+                c: r.value,
+                bytes: none,
+            },
+            Pending::Later => Call {
+                kind: 2,
+                a: 0,
+                b: 0,
+                c: 0,
+                bytes: none,
+            },
+            Pending::Ends => Call {
+                kind: 3,
+                a: 0,
+                b: 0,
+                c: 0,
+                bytes: none,
+            },
+            Pending::Letter(i, t) => Call {
+                kind: 4,
+                a: *i,
+                b: 0,
+                c: 0,
+                bytes: t.text.as_slice(),
+            },
+            Pending::Slot(t) => Call {
+                kind: 5,
+                a: 0,
+                b: 0,
+                c: 0,
+                bytes: t.text.as_slice(),
+            },
+            Pending::Next => Call {
+                kind: 6,
+                a: 0,
+                b: 0,
+                c: 0,
+                bytes: none,
+            },
         }
     }
 }
@@ -72,7 +114,11 @@ impl Desk {
     pub fn new(heap: Global) -> Result<Desk, AllocError> {
         let memory = memory(heap)?;
         let out = vec![in heap; 0; LETTER]?;
-        Ok(Desk { memory, row: [0; ROW], out })
+        Ok(Desk {
+            memory,
+            row: [0; ROW],
+            out,
+        })
     }
 
     // The first bytes of what a step left, so many of them, or all.
@@ -92,7 +138,13 @@ impl Hut {
     {
         let memory = memory(heap)?;
         let drawers = drawers(heap)?;
-        Ok(Hut { memory, pending: Some(Pending::Wakes(i)), reads_at: 0, gone: 0, drawers })
+        Ok(Hut {
+            memory,
+            pending: Some(Pending::Wakes(i)),
+            reads_at: 0,
+            gone: 0,
+            drawers,
+        })
     }
 
     // One step by what the machine is to be told, worked out on the desk; none where it rests.

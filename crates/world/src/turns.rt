@@ -62,7 +62,13 @@ impl World {
     }
 
     // Machine i does so many acts at most, till it rests.
-    fn work(&mut self, heap: Global, gauges: &[Vec<Reading>], i: u64, acts: u64) -> Result<(), AllocError>
+    fn work(
+        &mut self,
+        heap: Global,
+        gauges: &[Vec<Reading>],
+        i: u64,
+        acts: u64,
+    ) -> Result<(), AllocError>
         ensures { λ r. ⌜ made r (λ _. as-world (now (self .exit)) ≡ goes acts own (as-gauges (now (gauges .entry))) (as-world (now (self .entry))) i) ⌝ }
     {
         for _ in 0..acts {
@@ -77,7 +83,12 @@ impl World {
     }
 
     // Each machine is poked and works.
-    fn poke_all(&mut self, heap: Global, gauges: &[Vec<Reading>], acts: u64) -> Result<(), AllocError>
+    fn poke_all(
+        &mut self,
+        heap: Global,
+        gauges: &[Vec<Reading>],
+        acts: u64,
+    ) -> Result<(), AllocError>
         ensures { λ r. ⌜ made r (λ _. as-world (now (self .exit)) ≡ all-poked acts (as-gauges (now (gauges .entry))) (as-world (now (self .entry)))) ⌝ }
     {
         for i in 0..MACHINES {
@@ -88,7 +99,13 @@ impl World {
     }
 
     // One letter from each machine comes to j, and j works each time.
-    fn bring_all(&mut self, heap: Global, gauges: &[Vec<Reading>], j: u64, acts: u64) -> Result<(), AllocError>
+    fn bring_all(
+        &mut self,
+        heap: Global,
+        gauges: &[Vec<Reading>],
+        j: u64,
+        acts: u64,
+    ) -> Result<(), AllocError>
         ensures { λ r. ⌜ made r (λ _. as-world (now (self .exit)) ≡ all-brought acts (as-gauges (now (gauges .entry))) (as-world (now (self .entry))) j) ⌝ }
     {
         for i in 0..MACHINES {
@@ -109,7 +126,13 @@ impl World {
     }
 
     // Rounds in which nothing falls.
-    fn calm(&mut self, heap: Global, gauges: &[Vec<Reading>], rounds: u64, acts: u64) -> Result<(), AllocError>
+    fn calm(
+        &mut self,
+        heap: Global,
+        gauges: &[Vec<Reading>],
+        rounds: u64,
+        acts: u64,
+    ) -> Result<(), AllocError>
         ensures { λ r. ⌜ made r (λ _. as-world (now (self .exit)) ≡ calm rounds acts own (as-gauges (now (gauges .entry))) (as-world (now (self .entry)))) ⌝ }
     {
         for _ in 0..rounds {
@@ -119,7 +142,12 @@ impl World {
     }
 
     // One thing that happens.
-    pub fn happen(&mut self, heap: Global, gauges: &[Vec<Reading>], item: Item) -> Result<(), AllocError>
+    pub fn happen(
+        &mut self,
+        heap: Global,
+        gauges: &[Vec<Reading>],
+        item: Item,
+    ) -> Result<(), AllocError>
         ensures { λ r. ⌜ made r (λ _. as-world (now (self .exit)) ≡ took-place (as-gauges (now (gauges .entry))) (as-world (now (self .entry))) item) ⌝ }
     {
         match item {
@@ -141,6 +169,12 @@ impl World {
             huts.push(Hut::new(heap, i)?)?;
         }
         let desk = Desk::new(heap)?;
-        Ok(World { huts, wires: Vec::new(heap), told: Vec::new(heap), fault: false, desk })
+        Ok(World {
+            huts,
+            wires: Vec::new(heap),
+            told: Vec::new(heap),
+            fault: false,
+            desk,
+        })
     }
 }

@@ -23,14 +23,14 @@ use sums::Reading;
 
 #[derive(Drop)]
 pub struct World {
-    pub huts: Vec<Hut>,
+    pub(crate) huts: Vec<Hut>,
     // In the order in which they were sent.
-    pub wires: Vec<Letter>,
+    pub(crate) wires: Vec<Letter>,
     // The wall.
     pub told: Vec<Row>,
     // Some machine did what there is not.
     pub fault: bool,
-    pub desk: Desk,
+    pub(crate) desk: Desk,
 }
 
 // The row of gauge i, empty where there is no such gauge.
@@ -45,7 +45,7 @@ fn row_of(gauges: &[Vec<Reading>], i: usize) -> &[Reading]
 
 impl World {
     // Machine i is told to go on, if it rests.
-    pub fn poke(&mut self, i: u64)
+    pub(crate) fn poke(&mut self, i: u64)
         ensures { λ _. ⌜ as-world (now (self .exit)) ≡ poked (as-world (now (self .entry))) i ⌝ }
     {
         let at = i as usize;
@@ -58,7 +58,13 @@ impl World {
     }
 
     // What machine i does, by what its step told; a fault where there is no such act.
-    pub fn act(&mut self, heap: Global, gauges: &[Vec<Reading>], i: usize, told: Told) -> Result<(), AllocError>
+    pub(crate) fn act(
+        &mut self,
+        heap: Global,
+        gauges: &[Vec<Reading>],
+        i: usize,
+        told: Told,
+    ) -> Result<(), AllocError>
         requires { ⌜ i < vec-len (now self .huts) ⌝ }
         ensures { λ r. ⌜ made r (λ _. Acted (as-gauges (now (gauges .entry))) (as-world (now (self .entry))) i (vec-items (now (self .entry) .desk .memory)) (act-back told (now (self .entry) .desk .row) (vec-items (now (self .entry) .desk .out))) (as-world (now (self .exit)))) ⌝ }
     {
@@ -153,7 +159,12 @@ impl World {
             self.fault = true;
             return Ok(());
         }
-        self.wires.push(Letter { sender, reader, text })?;
+        self.wires
+            .push(Letter {
+                sender,
+                reader,
+                text,
+            })?;
         self.huts[i].turn(&mut self.desk, Some(Pending::Next));
         Ok(())
     }

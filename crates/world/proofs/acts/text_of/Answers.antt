@@ -23,5 +23,5 @@ returns c =
     let t = c .index .result .now in
     let lt : c .args .drawer < length (vec-items v) = omega (arith, v .ok .0) in
     let row : vec-items (t .text) ≡ nth-row (each as-text (vec-items v)) (c .args .drawer) =
-        ap as-text (c .index .ensures) ∙ sym (row-at as-text (vec-items v) (c .args .drawer) t lt) in
+    ap as-text (c .index .ensures) ∙ sym (row-at as-text (vec-items v) (c .args .drawer) t lt) in
     made-weaker (c .copied .result) _ _ (λ x e. e ∙ c .as-slice .ensures .value ∙ row) (c .copied .ensures)

@@ -17,7 +17,7 @@ loop-k-again-then-touches c =
     let lt : c .loop-k .k < length (vec-items v) = omega (arith, v .ok .0) in
     subst (Cut (c .args .i) (c .loop-k .k) (vec-items (c .args .wires .now))) (sym (c .remove-lost .ensures .items))
     (cut-goes (c .args .i) (c .loop-k .k) (vec-items (c .args .wires .now)) (vec-items v) (c .index .result .now) (c .index .ensures) lt (c .loop-k .inv)
-        (sym (c .touches .ensures) ∙ c .if-touches .taken))
+    (sym (c .touches .ensures) ∙ c .if-touches .taken))
 
 pub loop-k-again : need.loop-k-again
 loop-k-again c =

@@ -26,12 +26,13 @@ returns-then-is-between c =
     let lt : k < length ws = omega (arith, v .ok .0) in
     let same : c .index .result .now ≡ x = c .index .ensures ∙ getD-default ws k (c .index .result .now) x lt ∙ sym (c .remove .ensures .value) in
     let found : is-between (c .args .i) (c .args .j) (as-letter x) ≡ true =
-        ap (λ l. is-between (c .args .i) (c .args .j) (as-letter l)) (sym same) ∙ sym (c .is-between .ensures) ∙ c .if-is-between .taken in
+    ap (λ l. is-between (c .args .i) (c .args .j) (as-letter l)) (sym same) ∙ sym (c .is-between .ensures) ∙ c .if-is-between .taken in
     record {
       first = ap (λ u. first-between (c .args .i) (c .args .j) (each as-letter (vec-items u))) (sym (c .loop-k .inv .0))
           ∙ taken-first (c .args .i) (c .args .j) ws k x (c .remove .ensures .value) lt (c .loop-k .inv .1) found;
       rest = ap (each as-letter) (c .remove .ensures .items) ∙ taken-rest (c .args .i) (c .args .j) ws k x (c .remove .ensures .value) lt (c .loop-k .inv .1) found
-          ∙ ap (λ u. without-first (c .args .i) (c .args .j) (each as-letter (vec-items u))) (c .loop-k .inv .0) }
+          ∙ ap (λ u. without-first (c .args .i) (c .args .j) (each as-letter (vec-items u))) (c .loop-k .inv .0);
+    }
 
 pub loop-k-again : need.loop-k-again
 loop-k-again c =
@@ -48,7 +49,8 @@ returns c =
     let long : vec-len v ≡ vec-len (c .args .wires .now) = ap vec-len e in
     let le : length ws ≤ c .loop-k .k = omega (arith, v .ok .0) in
     let none : first-between (c .args .i) (c .args .j) (each as-letter ws) ≡ [] =
-        ap (λ l. first-between (c .args .i) (c .args .j) (each as-letter l)) (sym (take-all (c .loop-k .k) ws le)) ∙ c .loop-k .inv .1 in
+    ap (λ l. first-between (c .args .i) (c .args .j) (each as-letter l)) (sym (take-all (c .loop-k .k) ws le)) ∙ c .loop-k .inv .1 in
     record {
       first = ap (λ u. first-between (c .args .i) (c .args .j) (each as-letter (vec-items u))) (sym e) ∙ none;
-      rest = sym (none-rest (c .args .i) (c .args .j) (each as-letter ws) none) ∙ ap (λ u. without-first (c .args .i) (c .args .j) (each as-letter (vec-items u))) e }
+      rest = sym (none-rest (c .args .i) (c .args .j) (each as-letter ws) none) ∙ ap (λ u. without-first (c .args .i) (c .args .j) (each as-letter (vec-items u))) e;
+    }

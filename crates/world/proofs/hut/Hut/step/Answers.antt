@@ -30,5 +30,5 @@ returns c =
     let same : length (c .step-told .last .out) ≡ length out = omega arith in
     let lr : 3 ≤ length (desk .row) = omega arith in
     step-done (vec-items (h .memory)) (h .pending) (c .in-Some .event) (c .step-told .result) _ _ m (c .step-told .last .memory) (c .step-told .last .out)
-        (c .in-Some .is) (c .call-call .ensures .event) copy (refilled-is mid _ (kept ∙ long)) (refilled-is (desk .out) _ (same ∙ lo))
-        (step-back m (k .kind) (k .a) (k .b) (k .c) (k .bytes .now) (desk .row) out _ _ _ _ lm (c .call-call .ensures .kind) (c .call-call .ensures .room) lr (lo ∙ desk .room) same (c .step-told .ensures))
+    (c .in-Some .is) (c .call-call .ensures .event) copy (refilled-is mid _ (kept ∙ long)) (refilled-is (desk .out) _ (same ∙ lo))
+    (step-back m (k .kind) (k .a) (k .b) (k .c) (k .bytes .now) (desk .row) out _ _ _ _ lm (c .call-call .ensures .kind) (c .call-call .ensures .room) lr (lo ∙ desk .room) same (c .step-told .ensures))

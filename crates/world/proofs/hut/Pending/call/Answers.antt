@@ -29,13 +29,15 @@ returns-in-Next c = record { event = ap as-event (sym (c .in-Next .is)); kind = 
 pub returns-in-Letter : need.returns-in-Letter
 unfolding event-of
 returns-in-Letter c = record {
-    event = ap (letter (c .in-Letter .i)) (c .as-slice .ensures .value) ∙ ap as-event (sym (c .in-Letter .is));
-    kind = lit≤ tt;
-    room = rw (c .as-slice .ensures .value) (fit-few _ (c .in-Letter .t .fits)) }
+  event = ap (letter (c .in-Letter .i)) (c .as-slice .ensures .value) ∙ ap as-event (sym (c .in-Letter .is));
+  kind = lit≤ tt;
+  room = rw (c .as-slice .ensures .value) (fit-few _ (c .in-Letter .t .fits));
+}
 
 pub returns-in-Slot : need.returns-in-Slot
 unfolding event-of
 returns-in-Slot c = record {
-    event = ap slot (c .as-slice-in-Slot .ensures .value) ∙ ap as-event (sym (c .in-Slot .is));
-    kind = lit≤ tt;
-    room = rw (c .as-slice-in-Slot .ensures .value) (fit-few _ (c .in-Slot .t .fits)) }
+  event = ap slot (c .as-slice-in-Slot .ensures .value) ∙ ap as-event (sym (c .in-Slot .is));
+  kind = lit≤ tt;
+  room = rw (c .as-slice-in-Slot .ensures .value) (fit-few _ (c .in-Slot .t .fits));
+}

@@ -19,9 +19,10 @@ loop-b-again c =
     let x = getD (c .args .from .now) i 0 in
     let lt : i < length (c .args .from .now) = omega arith in
     let fits : x < 256 = omega arith in
-    let e : vec-items (c .push .last .self) ≡ vec-items (c .loop-b .text) ++ x ∷ [] = simp (c .in-Continue-push .was tt) at (c .push .ensures .items) in
-    (e ∙ ap (λ l. l ++ x ∷ []) (c .loop-b .inv .0) ∙ sym (take-more _ i 0 lt),
-     subst (λ l. all-bytes l ≡ true) (sym e) (bytes-push _ x (c .loop-b .inv .1) fits))
+    let e : vec-items (c .push .last .self) ≡ vec-items (c .loop-b .text) ++ x ∷ [] = simp (c .in-Continue-push .was tt) at (c .push .ensures .items) in (
+      e ∙ ap (λ l. l ++ x ∷ []) (c .loop-b .inv .0) ∙ sym (take-more _ i 0 lt),
+      subst (λ l. all-bytes l ≡ true) (sym e) (bytes-push _ x (c .loop-b .inv .1) fits),
+    )
 
 pub ghost-result : need.ghost-result
 ghost-result c =

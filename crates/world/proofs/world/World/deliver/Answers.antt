@@ -40,9 +40,9 @@ returns-in-Some c =
     let seen = hut-at (w .huts) j (c .index .result .now) lt (c .index .ensures) in
     let lent = hut-at (w .huts) j h lt (c .index-mut .ensures .value) in
     let rest : none-of (as-machine h .pending) ≡ true =
-        ap (λ x. none-of (x .pending)) (sym lent ∙ seen) ∙ sym (c .rests .ensures) ∙ c .if-not-rests .left in
+    ap (λ x. none-of (x .pending)) (sym lent ∙ seen) ∙ sym (c .rests .ensures) ∙ c .if-not-rests .left in
     ap₂ (λ ms ls. record { machines = ms; wires = ls; told = as-world w .told; fault = w .fault })
-        (each-set-nth as-machine (vec-items (w .huts)) j (c .hear .last .self) ∙ ap (set-nth (as-world w .machines) j) (c .hear .ensures)) (c .in-Some .ensures tt .rest)
+    (each-set-nth as-machine (vec-items (w .huts)) j (c .hear .last .self) ∙ ap (set-nth (as-world w .machines) j) (c .hear .ensures)) (c .in-Some .ensures tt .rest)
     ∙ sym (delivered-some (as-world w) (c .args .i) j (as-machine h) lent rest (as-letter (c .in-Some .letter)) [] (c .in-Some .ensures tt .first))
 
 pub returns-in-rest : need.returns-in-rest
@@ -54,5 +54,5 @@ returns-in-rest c =
     let seen = hut-at (w .huts) j (c .index .result .now) lt (c .index .ensures) in
     let none : first-between (c .args .i) j (each as-letter (vec-items (w .wires))) ≡ [] = c .in-rest .ensures tt .first in
     ap (λ ls. record { machines = as-world w .machines; wires = ls; told = as-world w .told; fault = w .fault })
-        (c .in-rest .ensures tt .rest ∙ none-rest (c .args .i) j (each as-letter (vec-items (w .wires))) none)
+    (c .in-rest .ensures tt .rest ∙ none-rest (c .args .i) j (each as-letter (vec-items (w .wires))) none)
     ∙ sym (delivered-none (as-world w) (c .args .i) j (as-machine (c .index .result .now)) seen (sym (c .rests .ensures) ∙ c .if-not-rests .left) none)

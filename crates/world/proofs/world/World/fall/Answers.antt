@@ -22,9 +22,9 @@ returns-then-at-len c =
     let lt : i < vec-len (w .huts) = omega arith in
     let lent = hut-at (w .huts) i h lt (c .index-mut .ensures .value) in
     ap₂ (λ ms ls. record { machines = ms; wires = ls; told = as-world w .told; fault = w .fault })
-        (each-set-nth as-machine (vec-items (w .huts)) i (c .fall .last .self) ∙ ap (set-nth (as-world w .machines) i) (c .fall .ensures)
-        ∙ ap (λ x. set-nth (as-world w .machines) i (machine (own .start) (wakes i ∷ []) (x .gone) (x .gone) (x .slots))) (sym lent))
-        (c .cut .ensures)
+    (each-set-nth as-machine (vec-items (w .huts)) i (c .fall .last .self) ∙ ap (set-nth (as-world w .machines) i) (c .fall .ensures)
+    ∙ ap (λ x. set-nth (as-world w .machines) i (machine (own .start) (wakes i ∷ []) (x .gone) (x .gone) (x .slots))) (sym lent))
+    (c .cut .ensures)
 
 pub returns-else-at-len : need.returns-else-at-len
 returns-else-at-len c =
@@ -33,4 +33,4 @@ returns-else-at-len c =
     let x = machine-at (as-world w .machines) i in
     let far : length (as-world w .machines) ≤ i = rw (length-each as-machine (vec-items (w .huts))) (omega (arith, w .huts .ok .0)) in
     ap₂ (λ ms ls. record { machines = ms; wires = ls; told = as-world w .told; fault = w .fault })
-        (sym (set-past (as-world w .machines) i (machine (own .start) (wakes i ∷ []) (x .gone) (x .gone) (x .slots)) far)) (c .cut .ensures)
+    (sym (set-past (as-world w .machines) i (machine (own .start) (wakes i ∷ []) (x .gone) (x .gone) (x .slots)) far)) (c .cut .ensures)

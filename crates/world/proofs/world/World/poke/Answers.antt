@@ -25,7 +25,7 @@ returns-then-rests c =
     let seen = hut-at (w .huts) i (c .index .result .now) lt (c .index .ensures) in
     let lent = hut-at (w .huts) i (c .index-mut .result .now) lt (c .index-mut .ensures .value) in
     let rest : none-of (as-machine (c .index-mut .result .now) .pending) ≡ true =
-        ap (λ x. none-of (x .pending)) (sym lent ∙ seen) ∙ sym (c .rests .ensures) ∙ c .if-rests .taken in
+    ap (λ x. none-of (x .pending)) (sym lent ∙ seen) ∙ sym (c .rests .ensures) ∙ c .if-rests .taken in
     hut-set (vec-items (w .huts)) (as-world w) i (c .hear .last .self) ∙ ap (with-machine (as-world w) i) (c .hear .ensures)
     ∙ sym (poked-rest (as-world w) i (as-machine (c .index-mut .result .now)) lent rest)
 

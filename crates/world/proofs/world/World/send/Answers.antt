@@ -24,7 +24,7 @@ returns c = λ gs.
     let t = c .in-Continue-text .text in
     let is = hut-at (w .huts) i h (c .pre) (c .index-mut .ensures .value) in
     ap₂ (λ ms ls. record { machines = ms; wires = ls; told = as-world w .told; fault = w .fault })
-        (each-set-nth as-machine (vec-items (w .huts)) i (c .turn .last .self) ∙ ap (set-nth (as-world w .machines) i) (c .turn .ensures))
-        (ap (each as-letter) (c .in-Continue-push .ensures tt .items) ∙ each-push as-letter (vec-items (w .wires)) _)
+    (each-set-nth as-machine (vec-items (w .huts)) i (c .turn .last .self) ∙ ap (set-nth (as-world w .machines) i) (c .turn .ensures))
+    (ap (each as-letter) (c .in-Continue-push .ensures tt .items) ∙ each-push as-letter (vec-items (w .wires)) _)
     ∙ sym (acted-sends gs (as-world w) i m (as-machine h) is (c .args .reader) (as-text t) (c .if-reader-ge-MACHINES .left) (λ e. c .if-reader-sender .left (sym e)) (t .fits))
     ∙ ap (λ bs. acted gs (as-world w) i m (sends (c .args .reader) bs)) (c .in-Continue-text .ensures tt)

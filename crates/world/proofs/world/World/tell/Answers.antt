@@ -18,6 +18,6 @@ returns c = λ gs.
     let h = c .index-mut .result .now in
     let is = hut-at (w .huts) (c .args .i) h (c .pre) (c .index-mut .ensures .value) in
     ap₂ (λ ms ts. record { machines = ms; wires = as-world w .wires; told = ts; fault = w .fault })
-        (each-set-nth as-machine (vec-items (w .huts)) (c .args .i) (c .turn .last .self) ∙ ap (set-nth (as-world w .machines) (c .args .i)) (c .turn .ensures))
-        (ap (each as-told) (c .in-Continue-push .ensures tt .items) ∙ each-push as-told (vec-items (w .told)) _)
+    (each-set-nth as-machine (vec-items (w .huts)) (c .args .i) (c .turn .last .self) ∙ ap (set-nth (as-world w .machines) (c .args .i)) (c .turn .ensures))
+    (ap (each as-told) (c .in-Continue-push .ensures tt .items) ∙ each-push as-told (vec-items (w .told)) _)
     ∙ sym (acted-tells gs (as-world w) (c .args .i) (vec-items (w .desk .memory)) (as-machine h) is (getD (w .desk .row) 0 0) (c .args .place) (getD (w .desk .row) 2 0))

@@ -28,7 +28,7 @@ loop-again c =
     let left = c .args .acts - (c .loop .counter + 1) in
     let more : suc (c .args .acts - (c .loop .counter + 1)) ≡ c .args .acts - c .loop .counter = omega arith in
     ap (λ u. goes left own gs u (c .args .i))
-        (went-on gs w (as-world (c .step .last .self)) (c .args .i) (c .in-Continue-step .field-0) (c .in-Continue-step .ensures tt) (c .if-not-branch .left))
+    (went-on gs w (as-world (c .step .last .self)) (c .args .i) (c .in-Continue-step .field-0) (c .in-Continue-step .ensures tt) (c .if-not-branch .left))
     ∙ sym (goes-step gs w (c .args .i) left (c .if-self .left)) ∙ ap (λ n. goes n own gs w (c .args .i)) more ∙ c .loop .inv
 
 pub returns : need.returns
