@@ -1,0 +1,148 @@
+// The root record and the cursor, by value and as bytes.
+ghost use mathlib.Core.Path.{_≡_};
+ghost use Rattle.store.specs.Records.{set-number, set-with, shadow-of, record-answer, record-written, root-length, root-bytes, root-in, root-of, cursor-length, cursor-bytes, cursor-in, cursor-of};
+use sums::numbers::read_number;
+use sums::numbers::write_row;
+
+// The bytes of each number of a record.
+const WIDTH: usize = 8;
+
+#[derive(Clone, Copy, PartialEq, Eq, Debug)]
+pub enum RecordError {
+    // There are too few bytes for the record.
+    TooShort,
+}
+
+// The pages that a root record names: none, or those of one of two sets.
+#[derive(Clone, Copy, PartialEq, Eq, Debug)]
+pub enum PageSet {
+    None,
+    First,
+    Second,
+}
+
+impl PageSet {
+    pub fn number(self) -> u64
+        ensures { λ r. ⌜ r ≡ set-number self ⌝ }
+    {
+        match self {
+            PageSet::None => 0,
+            PageSet::First => 1,
+            PageSet::Second => 2,
+        }
+    }
+
+    // The set of a number, if it is that of one.
+    pub fn from_number(number: u64) -> Option<PageSet>
+        ensures { λ r. ⌜ r ≡ set-with number ⌝ }
+    {
+        match number {
+            0 => Some(PageSet::None),
+            1 => Some(PageSet::First),
+            2 => Some(PageSet::Second),
+            _ => None,
+        }
+    }
+
+    // The set that the next checkpoint writes, so that the pages of this one stay whole.
+    pub fn shadow(self) -> PageSet
+        ensures { λ r. ⌜ r ≡ shadow-of self ⌝ }
+    {
+        match self {
+            PageSet::None | PageSet::Second => PageSet::First,
+            PageSet::First => PageSet::Second,
+        }
+    }
+}
+
+// The commit record of a checkpoint: whose pages hold the tables, of which hour, and where in the row of readings they end.
+#[derive(Clone, Copy, PartialEq, Eq, Debug)]
+pub struct Root {
+    pub set: PageSet,
+    pub hour: u64,
+    pub pos: u64,
+}
+
+impl Root {
+    // What an empty drawer stands for.
+    pub const ZERO: Root = Root { set: PageSet::None, hour: 0, pos: 0 };
+
+    // Writes the record over the front of the bytes.
+    pub fn encode(self, out: &mut [u8]) -> Result<(), RecordError>
+        ensures told { λ r. ⌜ r ≡ record-answer root-length (now (out .entry)) ⌝ }
+        ensures out { λ _. ⌜ now (out .exit) ≡ record-written root-length (root-bytes self) (now (out .entry)) ⌝ }
+    {
+        let numbers = [self.set.number(), self.hour, self.pos];
+        let Ok(()) = write_row(&numbers, WIDTH, out) else {
+            return Err(RecordError::TooShort);
+        };
+        Ok(())
+    }
+
+    // Reads a drawer: any bytes that are no root record stand for the zero record.
+    pub fn decode(bytes: &[u8]) -> Root
+        ensures { λ r. ⌜ r ≡ root-of (now (bytes .entry)) ⌝ }
+    {
+        let Some(root) = Root::read(bytes) else {
+            return Root::ZERO;
+        };
+        root
+    }
+
+    fn read(bytes: &[u8]) -> Option<Root>
+        ensures { λ r. ⌜ r ≡ root-in (now (bytes .entry)) ⌝ }
+    {
+        let (number, rest) = read_number(bytes, WIDTH)?;
+        let (hour, rest) = read_number(rest, WIDTH)?;
+        let (pos, rest) = read_number(rest, WIDTH)?;
+        if !rest.is_empty() {
+            return None;
+        }
+        let set = PageSet::from_number(number)?;
+        Some(Root { set, hour, pos })
+    }
+}
+
+// How far the sums are told: all of the hours below this one, and of this hour those in cells before `cell`.
+#[derive(Clone, Copy, PartialEq, Eq, Debug)]
+pub struct Cursor {
+    pub hour: u64,
+    pub cell: u64,
+}
+
+impl Cursor {
+    // What an empty drawer stands for.
+    pub const ZERO: Cursor = Cursor { hour: 0, cell: 0 };
+
+    // Writes the cursor over the front of the bytes.
+    pub fn encode(self, out: &mut [u8]) -> Result<(), RecordError>
+        ensures told { λ r. ⌜ r ≡ record-answer cursor-length (now (out .entry)) ⌝ }
+        ensures out { λ _. ⌜ now (out .exit) ≡ record-written cursor-length (cursor-bytes self) (now (out .entry)) ⌝ }
+    {
+        let Ok(()) = write_row(&[self.hour, self.cell], WIDTH, out) else {
+            return Err(RecordError::TooShort);
+        };
+        Ok(())
+    }
+
+    // Reads a drawer: any bytes that are no cursor stand for the zero cursor.
+    pub fn decode(bytes: &[u8]) -> Cursor
+        ensures { λ r. ⌜ r ≡ cursor-of (now (bytes .entry)) ⌝ }
+    {
+        let Some(cursor) = Cursor::read(bytes) else {
+            return Cursor::ZERO;
+        };
+        cursor
+    }
+
+    fn read(bytes: &[u8]) -> Option<Cursor>
+        ensures { λ r. ⌜ r ≡ cursor-in (now (bytes .entry)) ⌝ }
+    {
+        let (hour, rest) = read_number(bytes, WIDTH)?;
+        let (cell, rest) = read_number(rest, WIDTH)?;
+        if !rest.is_empty() {
+            return None;
+        }
+        Some(Cursor { hour, cell })
+    }
+}
