@@ -1,0 +1,2 @@
+// One gauge: its readings accumulated, its hours told, its checkpoints.
+pub mod act;
