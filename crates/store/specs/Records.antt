@@ -1,14 +1,16 @@
 -- The root record and the cursor, by value and as bytes. Assumes nothing: these are definitions.
-use mathlib.Core.Bool.{cond}
+use mathlib.Core.Path.{_≡_}
+use mathlib.Core.Bool.{true, cond}
 use mathlib.Core.List.{List, [], _∷_, _++_}
-use Prim.Native.Nat.{ℕ, _*_}
-use lib.Dec.{eqb, leb}
+use Prim.Native.Nat.{ℕ, _*_, _^_, _<_}
+use lib.Dec.{eqb, ltb, leb}
 use lib.ListN.{length, take, drop}
 use Rattle.std.specs.declared.option.Option.{Option}
 use Rattle.std.specs.declared.option.Option.the-variants.{Some, None}
 use Rattle.std.specs.declared.result.Result.{Result}
 use Rattle.std.specs.declared.result.Result.the-variants.{Ok, Err}
 use Rattle.sums.specs.Digits.{value, row-bytes}
+use Rattle.sums.specs.Sums.{every}
 use Rattle.store.specs.declared.records.Cursor.{Cursor}
 use Rattle.store.specs.declared.records.PageSet.{PageSet}
 use Rattle.store.specs.declared.records.PageSet.the-variants.{First, Second}
@@ -34,6 +36,10 @@ shadow-of Second = First
 -- the bytes of each number of a record
 abbrev pub number-width : ℕ
 number-width = 8
+
+-- numbers of a record are below 2^64
+abbrev pub number-limit : ℕ
+number-limit = 256 ^ number-width
 
 -- the number of a record that stands behind i others
 abbrev pub number-at : (i : ℕ) → List ℕ → ℕ
@@ -99,3 +105,21 @@ cursor-or-zero (Some c) = c
 -- the cursor that a drawer stands for
 unfoldable pub cursor-of : List ℕ → Cursor
 cursor-of bs = cursor-or-zero (cursor-in bs)
+
+-- A root record of bytes has its length, and gives back numbers that fit. What has another length stands for the zero record.
+unfoldable pub Root-round-trip : Type 0
+Root-round-trip =
+    ((r : Root) →
+    (length (root-bytes r) ≡ root-length)
+    × (every (λ b. ltb b 256) (root-bytes r) ≡ true)
+    × (r .hour < number-limit → r .pos < number-limit → root-of (root-bytes r) ≡ r))
+    × ((bs : List ℕ) → (length bs ≡ root-length → ⊥) → root-of bs ≡ zero-root)
+
+-- So it is of a cursor.
+unfoldable pub Cursor-round-trip : Type 0
+Cursor-round-trip =
+    ((c : Cursor) →
+    (length (cursor-bytes c) ≡ cursor-length)
+    × (every (λ b. ltb b 256) (cursor-bytes c) ≡ true)
+    × (c .hour < number-limit → c .cell < number-limit → cursor-of (cursor-bytes c) ≡ c))
+    × ((bs : List ℕ) → (length bs ≡ cursor-length → ⊥) → cursor-of bs ≡ zero-cursor)
