@@ -1,5 +1,5 @@
 -- The drawers' numbers: all different, and below 256.
-use mathlib.Core.Path.{_≡_, refl}
+use mathlib.Core.Path.{_≡_, refl, ap, _∙_}
 use mathlib.Core.Bool.{Bool, true, false, cond}
 use Prim.Native.Nat.{ℕ, _+_, _<_}
 use native.Mathlib.Omega.{arith}
@@ -21,13 +21,16 @@ lies-at from p d e = let g = go (ltb p pages) e in (ltb-true p pages (g .0), g .
     go true e = (refl, cc)
     go false e = (cc, cc)
 
-none-there : {A : Type 0} (d : ℕ) → _≡_ {A = Option ℕ} None (Some d) → A
+pub there : (from p d : ℕ) → p < pages → from + p ≡ d → cond (ltb p pages) (Some (from + p)) None ≡ Some d
+there from p d lt e = cond-true (ltb p pages) _ _ (lt-ltb p pages lt) ∙ ap Some e
+
+pub none-there : {A : Type 0} (d : ℕ) → _≡_ {A = Option ℕ} None (Some d) → A
 none-there d e = let z : _≡_ {A = ℕ} 0 1 = cc in absurd (omega arith)
 
 page-has-drawer : (s : PageSet) (p : ℕ) → (s ≡ page-set.None → ⊥) → p < pages → (d : ℕ) × (page-drawer s p ≡ Some d)
 page-has-drawer page-set.None p some lt = absurd (some refl)
-page-has-drawer First p some lt = (first-set + p, cond-true (ltb p pages) _ _ (lt-ltb p pages lt))
-page-has-drawer Second p some lt = (second-set + p, cond-true (ltb p pages) _ _ (lt-ltb p pages lt))
+page-has-drawer First p some lt = (first-set + p, there first-set p _ lt refl)
+page-has-drawer Second p some lt = (second-set + p, there second-set p _ lt refl)
 
 pub page-apart : (s : PageSet) (p d : ℕ) → page-drawer s p ≡ Some d → (cursor-copy < d) × (d < drawers)
 page-apart page-set.None p d e = none-there d e
