@@ -1,4 +1,5 @@
 pub mod Rows
+pub mod Views
 pub mod Induction
 pub mod Machines
 pub mod Acts
