@@ -1,5 +1,6 @@
 pub mod Rows
 pub mod Views
+pub mod Knows
 pub mod Induction
 pub mod Machines
 pub mod Acts
