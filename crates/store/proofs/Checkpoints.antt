@@ -1,16 +1,16 @@
 -- What the drawers stand for as a checkpoint, the cursor or a blank root is kept, and what a boot finds.
 use mathlib.Core.Path.{_≡_, refl, sym, ap, subst, _∙_}
-use mathlib.Core.Bool.{true}
 use mathlib.Core.List.{List, []}
 use mathlib.Core.Logic.{⊎-elim}
-use Prim.Native.Nat.{ℕ, zero, suc, _*_, _≤_, _<_}
+use Prim.Native.Nat.{ℕ, zero, suc, _≤_, _<_}
 use native.Mathlib.Omega.{arith}
-use lib.ListN.{length, take, drop, set, replicate, length-set, length-take, length-drop}
+use lib.ListN.{length, replicate, length-set}
 use Rattle.std.specs.declared.option.Option.{Option}
 use Rattle.std.specs.declared.option.Option.the-variants.{Some, None}
-use Rattle.std.proofs.shelf.Lists.{getD-set-same, getD-set-other, length-take-le}
+use Rattle.std.proofs.shelf.Lists.{getD-set-same, getD-set-other}
 use Rattle.std.proofs.shelf.Tests.{cases-eq}
 use Rattle.sums.specs.Cells.{places, pages, slots}
+use Rattle.sums.specs.Pages.{sum-width, count-width}
 use Rattle.sums.specs.Tables.{zero-table}
 use Rattle.store.specs.Drawers.{Drawers, drawers, drawer-at, with-drawer, root-drawer, cursor-drawer, page-drawer}
 use Rattle.store.specs.Kept.{Kept, kept, kept-of, sums-in, counts-in, table-in, page-cut}
@@ -21,7 +21,7 @@ use Rattle.store.specs.declared.records.PageSet.{PageSet}
 use Rattle.store.specs.declared.records.PageSet.the-variants.{First, Second}
 use Rattle.store.specs.declared.records.PageSet.the-variants as page-set
 use Rattle.store.specs.declared.records.Root.{Root}
-use Rattle.store.proofs.Columns.{length-sums-in, length-counts-in, sums-in-page, counts-in-page, sums-in-back, counts-in-back, every-cut}
+use Rattle.store.proofs.Columns.{length-sums-in, length-counts-in, sums-in-page, counts-in-page, sums-in-back, counts-in-back, length-cut, cut-fits}
 use Rattle.store.proofs.Numbered.{page-has-drawer, page-within, page-apart, pages-apart}
 use Rattle.store.proofs.PageRows.{table-same, table-is, length-table, table-cut}
 use Rattle.store.proofs.RoundTrips.{root-back, cursor-back}
@@ -76,9 +76,6 @@ page-more ds s ss cs n d len before here p e lt at =
     getD-set-other ds d e (cut-bytes n ss cs) [] (λ same. not-last (pages-apart s s p n d (at ∙ ap Some same) here .1)) ∙ before p e (omega arith) at)
     (cases-eq p n)
 
-length-cut : (p : ℕ) (xs : List ℕ) → length xs ≡ places → p < pages → length (page-cut p xs) ≡ slots
-length-cut p xs len lt = length-take-le slots (drop (slots * p) xs) (simp length-drop (omega arith))
-
 module _ (ds : Drawers) (len : length ds ≡ drawers) where
   -- what is read of the root's drawer and of the others, once a root is kept
   module _ (r : Root) (fits : Root-fits r) where
@@ -99,9 +96,15 @@ module _ (ds : Drawers) (len : length ds ≡ drawers) where
     commit ss cs fit some all =
         kept-is rooted r ss cs (kept-of ds .cursor) root-there
         (table-is sums-in rooted (r .set) ss some (fit .sums-length)
-        (λ p d at. ap sums-in (page p d at) ∙ sums-in-back (page-cut p ss) (page-cut p cs) (ls p d at) (lc p d at) (every-cut _ p ss (fit .sums))))
+        (λ p d at.
+        ap sums-in (page p d at)
+        ∙ sums-in-back (page-cut p ss) (page-cut p cs) (ls p d at) (lc p d at)
+        (cut-fits p ss (fit .sums-length) (page-within (r .set) p d at) sum-width (fit .sums))))
         (table-is counts-in rooted (r .set) cs some (fit .counts-length)
-        (λ p d at. ap counts-in (page p d at) ∙ counts-in-back (page-cut p ss) (page-cut p cs) (ls p d at) (lc p d at) (every-cut _ p cs (fit .counts))))
+        (λ p d at.
+        ap counts-in (page p d at)
+        ∙ counts-in-back (page-cut p ss) (page-cut p cs) (ls p d at) (lc p d at)
+        (cut-fits p cs (fit .counts-length) (page-within (r .set) p d at) count-width (fit .counts))))
         cursor-stays
       where
         ls : (p d : ℕ) → page-drawer (r .set) p ≡ Some d → length (page-cut p ss) ≡ slots

@@ -1,15 +1,12 @@
 -- What a checkpoint and a boot rest on. Each is a statement, proved behind a function. Assumes nothing.
 use mathlib.Core.Path.{_≡_}
-use mathlib.Core.Bool.{true}
 use mathlib.Core.List.{List, []}
-use Prim.Native.Nat.{ℕ, zero, suc, _≤_, _<_}
-use lib.ListN.{length, replicate}
+use Prim.Native.Nat.{ℕ, zero, suc, _^_, _≤_, _<_}
+use lib.ListN.{length, getD, replicate}
 use Rattle.std.specs.declared.option.Option.{Option}
 use Rattle.std.specs.declared.option.Option.the-variants.{Some, None}
 use Rattle.sums.specs.Cells.{places, pages}
-use Rattle.sums.specs.Digits.{fits}
 use Rattle.sums.specs.Pages.{sum-width, count-width, page-length, page-bytes, page-sums, page-counts}
-use Rattle.sums.specs.Sums.{every}
 use Rattle.sums.specs.Tables.{zero-table}
 use Rattle.store.specs.Drawers.{Drawers, drawers, drawer-at, with-drawer, root-drawer, cursor-drawer, page-drawer}
 use Rattle.store.specs.Kept.{kept, kept-of, sums-in, counts-in, page-cut}
@@ -19,7 +16,7 @@ use Rattle.store.specs.declared.records.PageSet.{PageSet}
 use Rattle.store.specs.declared.records.PageSet.the-variants as page-set
 use Rattle.store.specs.declared.records.Root.{Root}
 
--- numbers that their records and columns hold: sums below 2^64, counts below 2^32
+-- numbers that records and pages hold
 pub record Root-fits (r : Root) : Type 0 where
   pub hour : r .hour < number-limit
   pub pos : r .pos < number-limit
@@ -31,8 +28,8 @@ pub record Cursor-fits (c : Cursor) : Type 0 where
 pub record Tables-fit (ss cs : List ℕ) : Type 0 where
   pub sums-length : length ss ≡ places
   pub counts-length : length cs ≡ places
-  pub sums : every (fits sum-width) ss ≡ true
-  pub counts : every (fits count-width) cs ≡ true
+  pub sums : (c : ℕ) → c < places → getD ss c 0 < 256 ^ sum-width
+  pub counts : (c : ℕ) → c < places → getD cs c 0 < 256 ^ count-width
 
 -- A checkpoint writes a set that has pages, and that is not the one at hand. To keep a page of a set that the root does not name, whatever its bytes,
 -- changes nothing that the drawers stand for.
