@@ -1,4 +1,4 @@
--- What the drawers stand for as a checkpoint, the cursor or a blank root is kept, and what a boot finds.
+-- What the drawers stand for as a checkpoint, the cursor or a blank root is kept.
 use mathlib.Core.Path.{_≡_, refl, sym, ap, subst, _∙_}
 use mathlib.Core.List.{List, []}
 use mathlib.Core.Logic.{⊎-elim}
@@ -14,16 +14,16 @@ use Rattle.sums.specs.Pages.{sum-width, count-width}
 use Rattle.sums.specs.Tables.{zero-table}
 use Rattle.store.specs.Drawers.{Drawers, drawers, drawer-at, with-drawer, root-drawer, cursor-drawer, page-drawer}
 use Rattle.store.specs.Kept.{Kept, kept, kept-of, sums-in, counts-in, table-in, page-cut}
-use Rattle.store.specs.Laws.{Root-fits, Cursor-fits, Tables-fit, Shadow-law, cut-bytes, Pages-kept, Commit-law, with-page, with-pages, Atomic-law, Cursor-law, Blank-law, Empty-law, Checkpoint-laws, Boot-law}
+use Rattle.store.specs.Laws.{Root-fits, Cursor-fits, Tables-fit, Shadow-law, cut-bytes, Pages-kept, Commit-law, with-page, with-pages, Atomic-law, Cursor-law, Blank-law, Empty-law, Checkpoint-laws}
 use Rattle.store.specs.Records.{shadow-of, zero-root, root-bytes, root-of, zero-cursor, cursor-bytes, cursor-of}
 use Rattle.store.specs.declared.records.Cursor.{Cursor}
 use Rattle.store.specs.declared.records.PageSet.{PageSet}
 use Rattle.store.specs.declared.records.PageSet.the-variants.{First, Second}
 use Rattle.store.specs.declared.records.PageSet.the-variants as page-set
 use Rattle.store.specs.declared.records.Root.{Root}
-use Rattle.store.proofs.Columns.{length-sums-in, length-counts-in, sums-in-page, counts-in-page, sums-in-back, counts-in-back, length-cut, cut-fits}
+use Rattle.store.proofs.Columns.{sums-in-back, counts-in-back, length-cut, cut-fits}
 use Rattle.store.proofs.Numbered.{page-has-drawer, page-within, page-apart, pages-apart}
-use Rattle.store.proofs.PageRows.{table-same, table-is, length-table, table-cut}
+use Rattle.store.proofs.PageRows.{table-same, table-is}
 use Rattle.store.proofs.RoundTrips.{root-back, cursor-back}
 
 -- what drawers stand for, by the parts
@@ -178,19 +178,4 @@ checkpoint-laws =
       cursor = λ ds c len fits. cursor-alone ds len c fits;
       blank = λ ds r len fits none. blank ds len r fits none;
       empty = empty;
-    }
-
-pub boot-law : Boot-law
-unfolding kept-of table-in
-boot-law =
-    record {
-      root = λ ds. refl;
-      cursor = λ ds. refl;
-      lengths = λ ds. (length-table sums-in length-sums-in ds (kept-of ds .root .set), length-table counts-in length-counts-in ds (kept-of ds .root .set));
-      blank = λ ds none. (ap (table-in sums-in ds) none, ap (table-in counts-in ds) none);
-      cuts = λ ds p d at. (
-        table-cut sums-in length-sums-in ds (kept-of ds .root .set) p d at,
-        table-cut counts-in length-counts-in ds (kept-of ds .root .set) p d at,
-      );
-      page = λ bs len. (sums-in-page bs len, counts-in-page bs len);
     }

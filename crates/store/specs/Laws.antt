@@ -1,13 +1,14 @@
 -- What a checkpoint and a boot rest on. Each is a statement, proved behind a function. Assumes nothing.
 use mathlib.Core.Path.{_≡_}
 use mathlib.Core.List.{List, []}
-use Prim.Native.Nat.{ℕ, zero, suc, _^_, _≤_, _<_}
-use lib.ListN.{length, getD, replicate}
+use Prim.Native.Nat.{ℕ, zero, suc, _*_, _^_, _≤_, _<_}
+use lib.ListN.{length, getD, take, replicate}
 use Rattle.std.specs.declared.option.Option.{Option}
 use Rattle.std.specs.declared.option.Option.the-variants.{Some, None}
-use Rattle.sums.specs.Cells.{places, pages}
+use Rattle.sums.specs.Cells.{places, pages, slots}
 use Rattle.sums.specs.Pages.{sum-width, count-width, page-length, page-bytes, page-sums, page-counts}
 use Rattle.sums.specs.Tables.{zero-table}
+use Rattle.sums.specs.Written.{written}
 use Rattle.store.specs.Drawers.{Drawers, drawers, drawer-at, with-drawer, root-drawer, cursor-drawer, page-drawer}
 use Rattle.store.specs.Kept.{kept, kept-of, sums-in, counts-in, page-cut}
 use Rattle.store.specs.Records.{shadow-of, number-limit, zero-root, root-bytes, root-of, zero-cursor, cursor-bytes, cursor-of}
@@ -97,12 +98,24 @@ pub record Checkpoint-laws : Type 0 where
   pub blank : Blank-law
   pub empty : Empty-law
 
--- A boot reads the root, the pages that it names, one by one, and the cursor. These are the parts of what the drawers stand for.
+-- tables in memory that a boot has read the first n pages into
+pub record Read-back (ds : Drawers) (n : ℕ) (ss cs : List ℕ) : Type 0 where
+  pub sums-length : length ss ≡ places
+  pub counts-length : length cs ≡ places
+  pub sums : take (slots * n) ss ≡ take (slots * n) (kept-of ds .sums)
+  pub counts : take (slots * n) cs ≡ take (slots * n) (kept-of ds .counts)
+
+-- A boot reads the root, the pages that it names, one by one, and the cursor. These are the parts of what the drawers stand for, and page after page the
+-- tables become those of the root.
 pub record Boot-law : Type 0 where
   pub root : (ds : Drawers) → kept-of ds .root ≡ root-of (drawer-at ds root-drawer)
   pub cursor : (ds : Drawers) → kept-of ds .cursor ≡ cursor-of (drawer-at ds cursor-drawer)
-  pub lengths : (ds : Drawers) → (length (kept-of ds .sums) ≡ places) × (length (kept-of ds .counts) ≡ places)
   pub blank : (ds : Drawers) → kept-of ds .root .set ≡ page-set.None → (kept-of ds .sums ≡ zero-table) × (kept-of ds .counts ≡ zero-table)
+  pub lengths : (ds : Drawers) → (length (kept-of ds .sums) ≡ places) × (length (kept-of ds .counts) ≡ places)
   pub cuts : (ds : Drawers) (p d : ℕ) → page-drawer (kept-of ds .root .set) p ≡ Some d →
       (page-cut p (kept-of ds .sums) ≡ sums-in (drawer-at ds d)) × (page-cut p (kept-of ds .counts) ≡ counts-in (drawer-at ds d))
-  pub page : (bs : List ℕ) → length bs ≡ page-length → (sums-in bs ≡ page-sums bs) × (counts-in bs ≡ page-counts bs)
+  pub pages-only : (bs : List ℕ) → length bs ≡ page-length → (sums-in bs ≡ page-sums bs) × (counts-in bs ≡ page-counts bs)
+  pub begun : (ds : Drawers) (ss cs : List ℕ) → length ss ≡ places → length cs ≡ places → Read-back ds 0 ss cs
+  pub one-more : (ds : Drawers) (p d : ℕ) (ss cs : List ℕ) → page-drawer (kept-of ds .root .set) p ≡ Some d → Read-back ds p ss cs →
+      Read-back ds (suc p) (written ss (slots * p) (sums-in (drawer-at ds d))) (written cs (slots * p) (counts-in (drawer-at ds d)))
+  pub done : (ds : Drawers) (ss cs : List ℕ) → Read-back ds pages ss cs → (ss ≡ kept-of ds .sums) × (cs ≡ kept-of ds .counts)

@@ -1,4 +1,4 @@
-use Rattle.store.proofs.Checkpoints.{boot-law}
+use Rattle.store.proofs.Boots.{boot-law}
 use Rattle.store.proofs.boot_law.Needs as need
 
 pub returns : need.returns
