@@ -1,13 +1,15 @@
 -- The columns that a drawer stands for: their lengths, and those of a page.
-use mathlib.Core.Path.{_≡_, refl, sym, ap, _∙_}
+use mathlib.Core.Path.{_≡_, refl, ap, _∙_}
 use mathlib.Core.Bool.{Bool, true, cond}
 use mathlib.Core.List.{List, [], _∷_}
-use Prim.Native.Nat.{ℕ, zero, suc}
+use Prim.Native.Nat.{ℕ, suc, _+_, _*_, _^_, _<_}
+use native.Mathlib.Omega.{arith}
 use lib.Dec.{eqb}
-use lib.ListN.{length, take, drop, replicate, length-replicate}
+use lib.ListN.{length, getD, drop, replicate, length-replicate, length-drop}
 use Rattle.std.specs.Results.{isOk}
-use Rattle.std.proofs.shelf.Tests.{and-from, and-parts, eq-eqb, cond-both}
-use Rattle.sums.specs.Cells.{slots}
+use Rattle.std.proofs.shelf.Lists.{getD-take, getD-drop, length-take-le}
+use Rattle.std.proofs.shelf.Tests.{and-from, eq-eqb, lt-ltb, cond-both}
+use Rattle.sums.specs.Cells.{places, pages, slots}
 use Rattle.sums.specs.Digits.{fits}
 use Rattle.sums.specs.Pages.{sum-width, count-width, page-length, page-bytes, page-sums, page-counts, decode-answer}
 use Rattle.sums.specs.Sums.{every}
@@ -45,18 +47,20 @@ module _ (ss cs : List ℕ) (ls : length ss ≡ slots) (lc : length cs ≡ slots
   pub counts-in-back : every (fits count-width) cs ≡ true → counts-in (page-bytes ss cs) ≡ cs
   counts-in-back all = counts-in-page (page-bytes ss cs) (length-page ss cs ls lc) ∙ counts-back ss cs ls lc all
 
-module _ {A : Type 0} (f : A → Bool) where
-  every-take : (n : ℕ) (xs : List A) → every f xs ≡ true → every f (take n xs) ≡ true
-  unfolding every
-  every-take zero xs all = refl
-  every-take (suc n) [] all = refl
-  every-take (suc n) (x ∷ xs) all = and-from _ _ (and-parts _ _ all .0) (every-take n xs (and-parts (f x) _ all .1))
+every-from : (f : ℕ → Bool) (xs : List ℕ) → ((i : ℕ) → i < length xs → f (getD xs i 0) ≡ true) → every f xs ≡ true
+unfolding every
+every-from f [] all = refl
+every-from f (x ∷ xs) all = and-from _ _ (all 0 (omega arith)) (every-from f xs (λ i lt. all (suc i) (omega arith)))
 
-  every-drop : (n : ℕ) (xs : List A) → every f xs ≡ true → every f (drop n xs) ≡ true
-  unfolding every
-  every-drop zero xs all = all
-  every-drop (suc n) [] all = refl
-  every-drop (suc n) (x ∷ xs) all = every-drop n xs (and-parts (f x) _ all .1)
+module _ (p : ℕ) (xs : List ℕ) (len : length xs ≡ places) (lt : p < pages) where
+  pub length-cut : length (page-cut p xs) ≡ slots
+  length-cut = length-take-le slots (drop (slots * p) xs) (simp length-drop (omega arith))
 
-pub every-cut : (f : ℕ → Bool) (p : ℕ) (xs : List ℕ) → every f xs ≡ true → every f (page-cut p xs) ≡ true
-every-cut f p xs all = every-take f slots _ (every-drop f _ xs all)
+  -- numbers of a table that fit are so in each of its cuts
+  pub cut-fits : (w : ℕ) → ((c : ℕ) → c < places → getD xs c 0 < 256 ^ w) → every (fits w) (page-cut p xs) ≡ true
+  cut-fits w small =
+      every-from (fits w) (page-cut p xs)
+      (λ i li.
+      let here : i < slots = omega (arith, length-cut) in
+      let e : getD (page-cut p xs) i 0 ≡ getD xs (slots * p + i) 0 = getD-take slots (drop (slots * p) xs) i 0 here ∙ getD-drop (slots * p) xs i 0 in
+      ap (fits w) e ∙ lt-ltb _ _ (small (slots * p + i) (omega arith)))

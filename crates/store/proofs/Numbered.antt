@@ -27,10 +27,15 @@ there from p d lt e = cond-true (ltb p pages) _ _ (lt-ltb p pages lt) ∙ ap Som
 pub none-there : {A : Type 0} (d : ℕ) → _≡_ {A = Option ℕ} None (Some d) → A
 none-there d e = let z : _≡_ {A = ℕ} 0 1 = cc in absurd (omega arith)
 
-page-has-drawer : (s : PageSet) (p : ℕ) → (s ≡ page-set.None → ⊥) → p < pages → (d : ℕ) × (page-drawer s p ≡ Some d)
+pub page-has-drawer : (s : PageSet) (p : ℕ) → (s ≡ page-set.None → ⊥) → p < pages → (d : ℕ) × (page-drawer s p ≡ Some d)
 page-has-drawer page-set.None p some lt = absurd (some refl)
 page-has-drawer First p some lt = (first-set + p, there first-set p _ lt refl)
 page-has-drawer Second p some lt = (second-set + p, there second-set p _ lt refl)
+
+pub page-within : (s : PageSet) (p d : ℕ) → page-drawer s p ≡ Some d → p < pages
+page-within page-set.None p d e = none-there d e
+page-within First p d e = lies-at first-set p d e .0
+page-within Second p d e = lies-at second-set p d e .0
 
 pub page-apart : (s : PageSet) (p d : ℕ) → page-drawer s p ≡ Some d → (cursor-copy < d) × (d < drawers)
 page-apart page-set.None p d e = none-there d e

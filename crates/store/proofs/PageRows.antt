@@ -1,14 +1,16 @@
 -- Tables that are read from drawers, page by page: their lengths, their cuts, and what they depend on.
-use mathlib.Core.Path.{_≡_, refl, sym, ap, subst, _∙_}
-use mathlib.Core.List.{List, [], _∷_, _++_}
+use mathlib.Core.Path.{_≡_, refl, sym, ap, _∙_}
+use mathlib.Core.List.{List, [], _++_, append-assoc}
 use Prim.Native.Nat.{ℕ, zero, suc, _+_, _*_, _-_, _≤_, _<_}
-use native.Mathlib.Nat.{add-zero}
 use native.Mathlib.Omega.{arith}
 use lib.ListN.{length, take, drop, length-append, length-drop, length-replicate}
+use lib.Seq.{take-add}
 use Rattle.std.specs.declared.option.Option.the-variants.{Some}
-use Rattle.std.proofs.shelf.Lists.{take-at, drop-at, drop-drop, nil-from-length, take-append-drop}
+use Rattle.std.proofs.shelf.Lists.{take-at, drop-at, drop-drop, nil-from-length, take-append-drop, length-take-le}
 use Rattle.sums.specs.Cells.{pages, slots, places}
 use Rattle.sums.specs.Tables.{zero-table}
+use Rattle.sums.specs.Written.{written}
+use Rattle.sums.proofs.Overwrites.{length-written}
 use Rattle.store.specs.Drawers.{Drawers, drawer-at, page-drawer, first-set, second-set}
 use Rattle.store.specs.Kept.{rows-from, table-in, page-cut}
 use Rattle.store.specs.declared.records.PageSet.{PageSet}
@@ -21,6 +23,25 @@ cut-behind : (p : ℕ) (xs : List ℕ) → page-cut (suc p) xs ≡ page-cut p (d
 cut-behind p xs =
     let e : slots * suc p ≡ slots + slots * p = omega arith in
     ap (λ k. take slots (drop k xs)) e ∙ ap (take slots) (sym (drop-drop (slots * p) slots xs))
+
+-- a table with one page more of another
+module _ (p : ℕ) (xs ys zs : List ℕ) (len : length xs ≡ places) (lt : p < pages) (page : length ys ≡ slots) where
+  pub length-next : length (written xs (slots * p) ys) ≡ places
+  length-next = length-written xs (slots * p) ys (omega arith) ∙ len
+
+  pub table-next : page-cut p zs ≡ ys → take (slots * p) xs ≡ take (slots * p) zs →
+      take (slots * suc p) (written xs (slots * p) ys) ≡ take (slots * suc p) zs
+  table-next cut front =
+      let at = slots * p in
+      let e : slots * suc p ≡ at + slots = omega arith in
+      let n : length (take at xs ++ ys) ≡ slots * suc p =
+      length-append (take at xs) ys ∙ omega (arith, length-take-le at xs (omega arith)) in
+      ap (take (slots * suc p)) (sym (append-assoc (take at xs) ys (drop (at + length ys) xs)))
+      ∙ take-at (take at xs ++ ys) (drop (at + length ys) xs) (slots * suc p) n
+      ∙ ap (λ l. l ++ ys) front
+      ∙ ap (λ l. take at zs ++ l) (sym cut)
+      ∙ sym (take-add at slots zs)
+      ∙ ap (λ k. take k zs) (sym e)
 
 module _ (read : List ℕ → List ℕ) where
   -- drawers with the same bytes
