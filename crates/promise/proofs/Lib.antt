@@ -1,9 +1,12 @@
 pub mod Rows
-pub mod Views
-pub mod Knows
 pub mod Induction
 pub mod Machines
 pub mod Acts
+pub mod Views
+pub mod Knows
+pub mod Runs
+pub mod Ranks
+pub mod Turns
 pub mod Start
 pub mod Others
 pub mod Calm
