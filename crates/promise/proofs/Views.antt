@@ -1,9 +1,22 @@
 -- The memory of a machine by its named parts, and each step of the machine on it.
 use mathlib.Core.Path.{_≡_, refl, sym, ap, ap₂, _∙_}
 use mathlib.Core.List.{List, [], _∷_, _++_}
-use Prim.Native.Nat.{ℕ}
-use lib.ListN.{length}
-use Rattle.machine.specs.Run.{Act, Step}
+use Prim.Native.Nat.{ℕ, suc, _+_, _*_, _-_, _/_, _≤_, _<_}
+use native.Mathlib.Omega.{arith}
+use lib.Dec.{eqb}
+use lib.ListN.{length, replicate, length-append, length-replicate, replicate-append-replicate}
+use Rattle.std.proofs.shelf.Tests.{lt-ltb, eq-eqb, ne-eqb, cond-true}
+use Rattle.std.specs.declared.option.Option.the-variants.{Some, None}
+use Rattle.sums.specs.Tables.{zero-table}
+use Rattle.store.specs.Records.{root, root-bytes, root-of, cursor, cursor-bytes, cursor-of, set-number}
+use Rattle.store.specs.Drawers.{page-drawer}
+use Rattle.store.specs.declared.records.PageSet.{PageSet}
+use Rattle.store.specs.declared.records.PageSet.the-variants as page-set
+use Rattle.gauge.specs.Memory.{asks-root, asks-page, asks-cursor, placed, released, reading, saved, rooted, told, noted, closed, done}
+use Rattle.gauge.specs.Gauge.{tell-next, next-cell}
+use Rattle.machine.specs.Run.{Event, wakes, comes, later, ends, letter, slot, next, Act, more, from, let-go, keep, recall, tells, rests, Step}
+use Rattle.machine.specs.Machine.{reacts, as-step, machine-step}
+use Rattle.machine.specs.Entry.{own}
 
 -- phase, index, begun, hour, pos, set, the cursor's hour and cell, sums and counts
 abbrev pub mem : (ph ix bg hr ps st ch cc : ℕ) (ss cs : List ℕ) → List ℕ
@@ -11,3 +24,78 @@ mem ph ix bg hr ps st ch cc ss cs = ph ∷ ix ∷ bg ∷ hr ∷ ps ∷ st ∷ ch
 
 abbrev pub does : List ℕ → Act → Step
 does m a = record { memory = m; act = a }
+
+two-tables : (n : ℕ) → n ≡ 2048 → replicate n 0 ≡ zero-table ++ zero-table
+unfolding zero-table
+two-tables n e = rw e (sym (replicate-append-replicate 1024 1024 0))
+
+pub start-mem : own .start ≡ mem 0 0 0 0 0 0 0 0 zero-table zero-table
+unfolding own
+start-mem = ap (λ l. 0 ∷ 0 ∷ 0 ∷ 0 ∷ 0 ∷ 0 ∷ 0 ∷ 0 ∷ l) (two-tables 2048 refl)
+
+module _ (ix bg hr ps st ch cc : ℕ) (ss cs : List ℕ) (zs : length ss ≡ 1024) (zc : length cs ≡ 1024) where
+  length-tables : length (ss ++ cs) ≡ 2048
+  length-tables = simp length-append (omega arith)
+
+  pub length-mem : (ph : ℕ) → length (mem ph ix bg hr ps st ch cc ss cs) ≡ 2056
+  length-mem ph = ap (λ n. suc (suc (suc (suc (suc (suc (suc (suc n)))))))) length-tables
+
+  -- the memory has the machine's own length
+  steps : (ph : ℕ) (ev : Event) → own .step (mem ph ix bg hr ps st ch cc ss cs) ev ≡ as-step (reacts (mem ph ix bg hr ps st ch cc ss cs) ev)
+  unfolding own machine-step
+  steps ph ev = cond-true _ _ _ (eq-eqb _ _ (length-mem ph))
+
+  pub step-wakes : (ph i : ℕ) → own .step (mem ph ix bg hr ps st ch cc ss cs) (wakes i) ≡ does (mem asks-root 0 0 0 0 0 0 0 zero-table zero-table) (recall 0)
+  step-wakes ph i = steps ph (wakes i) ∙ ap (λ l. does (asks-root ∷ 0 ∷ 0 ∷ 0 ∷ 0 ∷ 0 ∷ 0 ∷ 0 ∷ l) (recall 0)) (two-tables _ length-tables)
+
+  pub step-placed : own .step (mem placed ix bg hr ps st ch cc ss cs) next ≡ does (mem released ix bg hr ps st ch cc ss cs) (let-go ps)
+  step-placed = steps placed next
+
+  pub step-released : own .step (mem released ix bg hr ps st ch cc ss cs) next ≡ does (mem reading ix bg hr ps st ch cc ss cs) more
+  step-released = steps released next
+
+  pub step-rooted : own .step (mem rooted ix bg hr ps st ch cc ss cs) next ≡ does (mem placed ix bg hr ps st ch cc ss cs) (from ps)
+  step-rooted = steps rooted next
+
+  pub step-told : own .step (mem told ix bg hr ps st ch cc ss cs) next ≡ does (mem noted ix bg hr ps st ch cc ss cs) (keep 2 (cursor-bytes (cursor ch cc)))
+  step-told = steps told next
+
+  pub step-done : own .step (mem done ix bg hr ps st ch cc ss cs) next ≡ does (mem done ix bg hr ps st ch cc ss cs) rests
+  step-done = steps done next
+
+  pub step-closed : own .step (mem closed ix bg hr ps st ch cc ss cs) next ≡
+      does (mem rooted ix 0 hr ps 0 ch cc zero-table zero-table) (keep 0 (root-bytes (root page-set.None 0 ps)))
+  step-closed =
+      let left : length (mem closed ix bg hr ps st ch cc ss cs) - 8 ≡ 2048 = omega (arith, length-mem closed) in
+      steps closed next ∙ ap (λ l. does (rooted ∷ ix ∷ 0 ∷ hr ∷ ps ∷ 0 ∷ ch ∷ cc ∷ l) (keep 0 (root-bytes (root page-set.None 0 ps)))) (two-tables _ left)
+
+  pub step-root-none : (bs : List ℕ) (h p : ℕ) → root-of bs ≡ root page-set.None h p → h < 18446744073709551616 → p < 18446744073709551616 →
+      own .step (mem asks-root ix bg hr ps st ch cc ss cs) (slot bs) ≡ does (mem asks-cursor ix 0 h p 0 ch cc ss cs) (recall 2)
+  step-root-none bs h p e hh hp = steps asks-root (slot bs) ∙ simp (e, lt-ltb h 18446744073709551616 hh, lt-ltb p 18446744073709551616 hp)
+
+  pub step-root-some : (bs : List ℕ) (s : PageSet) (h p d : ℕ) → root-of bs ≡ root s h p → (set-number s ≡ 0 → ⊥) →
+      h < 18446744073709551616 → p < 18446744073709551616 → page-drawer s 0 ≡ Some d →
+      own .step (mem asks-root ix bg hr ps st ch cc ss cs) (slot bs) ≡ does (mem asks-page 0 1 h p (set-number s) ch cc ss cs) (recall d)
+  step-root-some bs s h p d e some hh hp there =
+      steps asks-root (slot bs)
+      ∙ simp (e, lt-ltb h 18446744073709551616 hh, lt-ltb p 18446744073709551616 hp, there, ne-eqb (set-number s) 0 some)
+
+  pub step-cursor : (bs : List ℕ) (h c : ℕ) → cursor-of bs ≡ cursor h c → h < 18446744073709551616 → c < 18446744073709551616 →
+      own .step (mem asks-cursor ix bg hr ps st ch cc ss cs) (slot bs) ≡ does (mem placed ix bg hr ps st h c ss cs) (from ps)
+  step-cursor bs h c e hh hc = steps asks-cursor (slot bs) ∙ simp (e, lt-ltb h 18446744073709551616 hh, lt-ltb c 18446744073709551616 hc)
+
+  pub step-over : (t k v : ℕ) → t < 4611686018427387904 → k < 1024 → v < 4294967296 → (bg ≡ 0 → ⊥) → (t / 100 ≡ hr → ⊥) →
+      own .step (mem reading ix bg hr ps st ch cc ss cs) (comes t k v) ≡ as-step (tell-next (mem reading ix bg hr ps st ch cc ss cs))
+  step-over t k v ht hk hv begun over =
+      steps reading (comes t k v)
+      ∙ simp (lt-ltb t 4611686018427387904 ht, lt-ltb k 1024 hk, lt-ltb v 4294967296 hv, ne-eqb bg 0 begun, ne-eqb (t / 100) hr over)
+
+  pub step-ends-open : (bg ≡ 0 → ⊥) →
+      own .step (mem reading ix bg hr ps st ch cc ss cs) ends ≡ as-step (tell-next (mem reading ix bg hr ps st ch cc ss cs))
+  step-ends-open begun = steps reading ends ∙ simp (ne-eqb bg 0 begun)
+
+  pub step-ends-shut : bg ≡ 0 → own .step (mem reading ix bg hr ps st ch cc ss cs) ends ≡ does (mem done ix bg hr ps st ch cc ss cs) rests
+  step-ends-shut none = steps reading ends ∙ simp (eq-eqb bg 0 none)
+
+  pub step-noted : own .step (mem noted ix bg hr ps st ch cc ss cs) next ≡ as-step (tell-next (mem noted ix bg hr ps st ch cc ss cs))
+  step-noted = steps noted next
