@@ -4,16 +4,19 @@ use mathlib.Core.List.{List, [], _∷_, _++_}
 use Prim.Native.Nat.{ℕ, suc, _+_, _*_, _-_, _/_, _≤_, _<_}
 use native.Mathlib.Omega.{arith}
 use lib.Dec.{eqb}
-use lib.ListN.{length, replicate, length-append, length-replicate, replicate-append-replicate}
-use Rattle.std.proofs.shelf.Tests.{lt-ltb, eq-eqb, ne-eqb, cond-true}
+use lib.ListN.{length, getD, set, take, drop, replicate, length-append, length-take, length-drop, replicate-append-replicate}
+use lib.Seq.{drop-drop, drop-at, drop-append-add, drop-append-le, take-append-le}
+use Rattle.std.proofs.shelf.Tests.{lt-ltb, le-ltb, eq-eqb, ne-eqb, cond-true, cond-false}
 use Rattle.std.specs.declared.option.Option.the-variants.{Some, None}
 use Rattle.sums.specs.Tables.{zero-table}
-use Rattle.store.specs.Records.{root, root-bytes, root-of, cursor, cursor-bytes, cursor-of, set-number}
+use Rattle.sums.specs.Pages.{page-bytes, page-sums, page-counts}
+use Rattle.store.specs.Records.{root, root-bytes, root-of, cursor, cursor-bytes, cursor-of, set-number, shadow-of}
 use Rattle.store.specs.Drawers.{page-drawer}
+use Rattle.store.specs.Kept.{page-cut}
 use Rattle.store.specs.declared.records.PageSet.{PageSet}
 use Rattle.store.specs.declared.records.PageSet.the-variants as page-set
-use Rattle.gauge.specs.Memory.{asks-root, asks-page, asks-cursor, placed, released, reading, saved, rooted, told, noted, closed, done}
-use Rattle.gauge.specs.Gauge.{tell-next, next-cell}
+use Rattle.gauge.specs.Memory.{asks-root, asks-page, asks-cursor, placed, released, reading, saved, rooted, told, noted, closed, done, page-sums-in, page-counts-in, sums-in, counts-in}
+use Rattle.gauge.specs.Gauge.{tell-next, next-cell, set-named, page-saved}
 use Rattle.machine.specs.Run.{Event, wakes, comes, later, ends, letter, slot, next, Act, more, from, let-go, keep, recall, tells, rests, Step}
 use Rattle.machine.specs.Machine.{reacts, as-step, machine-step}
 use Rattle.machine.specs.Entry.{own}
@@ -99,3 +102,36 @@ module _ (ix bg hr ps st ch cc : ℕ) (ss cs : List ℕ) (zs : length ss ≡ 102
 
   pub step-noted : own .step (mem noted ix bg hr ps st ch cc ss cs) next ≡ as-step (tell-next (mem noted ix bg hr ps st ch cc ss cs))
   step-noted = steps noted next
+
+  page-sums-at : (ph p : ℕ) → p < 8 → page-sums-in (mem ph ix bg hr ps st ch cc ss cs) p ≡ page-cut p ss
+  unfolding page-sums-in
+  page-sums-at ph p lt =
+      let le : 128 * p ≤ length ss = omega arith in
+      let room : 128 ≤ length (drop (128 * p) ss) = simp length-drop (omega arith) in
+      ap (take 128) (drop-append-add (ph ∷ ix ∷ bg ∷ hr ∷ ps ∷ st ∷ ch ∷ cc ∷ []) (ss ++ cs) (128 * p) ∙ drop-append-le (128 * p) ss cs le)
+      ∙ take-append-le 128 (drop (128 * p) ss) cs room
+
+  page-counts-at : (ph p : ℕ) → page-counts-in (mem ph ix bg hr ps st ch cc ss cs) p ≡ page-cut p cs
+  unfolding page-counts-in
+  page-counts-at ph p =
+      let behind : drop (1032 + 128 * p) (mem ph ix bg hr ps st ch cc ss cs) ≡ drop (128 * p) cs =
+          sym (drop-drop (128 * p) 1032 (mem ph ix bg hr ps st ch cc ss cs)) ∙ ap (drop (128 * p)) (drop-at ss cs 1024 zs) in
+      ap (take 128) behind
+
+  page-saved-at : (ph p d : ℕ) → p < 8 → page-drawer (shadow-of (set-named st)) p ≡ Some d → as-step (page-saved (mem ph ix bg hr ps st ch cc ss cs) p) ≡
+      does (mem saved p bg hr ps st ch cc ss cs) (keep d (page-bytes (page-cut p ss) (page-cut p cs)))
+  page-saved-at ph p d lt there = simp (there, page-sums-at ph p lt, page-counts-at ph p)
+
+  pub step-filled : (d : ℕ) → (bg ≡ 0 → ⊥) → page-drawer (shadow-of (set-named st)) 0 ≡ Some d →
+      own .step (mem reading ix bg hr ps st ch cc ss cs) later ≡
+      does (mem saved 0 bg hr ps st ch cc ss cs) (keep d (page-bytes (page-cut 0 ss) (page-cut 0 cs)))
+  step-filled d begun there = steps reading later ∙ ap as-step (cond-false _ _ _ (ne-eqb bg 0 begun)) ∙ page-saved-at reading 0 d (omega arith) there
+
+  pub step-saved : (d : ℕ) → ix + 1 < 8 → page-drawer (shadow-of (set-named st)) (ix + 1) ≡ Some d →
+      own .step (mem saved ix bg hr ps st ch cc ss cs) next ≡
+      does (mem saved (ix + 1) bg hr ps st ch cc ss cs) (keep d (page-bytes (page-cut (ix + 1) ss) (page-cut (ix + 1) cs)))
+  step-saved d lt there = steps saved next ∙ ap as-step (cond-true _ _ _ (lt-ltb (ix + 1) 8 lt)) ∙ page-saved-at saved (ix + 1) d lt there
+
+  pub step-saved-root : 8 ≤ ix + 1 → own .step (mem saved ix bg hr ps st ch cc ss cs) next ≡
+      does (mem rooted ix bg hr ps (set-number (shadow-of (set-named st))) ch cc ss cs) (keep 0 (root-bytes (root (shadow-of (set-named st)) hr ps)))
+  step-saved-root le = steps saved next ∙ ap as-step (cond-false _ _ _ (le-ltb (ix + 1) 8 le))
