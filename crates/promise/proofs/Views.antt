@@ -3,11 +3,12 @@ use mathlib.Core.Path.{_≡_, refl, sym, ap, ap₂, _∙_}
 use mathlib.Core.List.{List, [], _∷_, _++_}
 use Prim.Native.Nat.{ℕ, suc, _+_, _*_, _-_, _/_, _≤_, _<_}
 use native.Mathlib.Omega.{arith}
-use lib.Dec.{eqb}
-use lib.ListN.{length, getD, set, take, drop, replicate, length-append, length-take, length-drop, replicate-append-replicate}
-use lib.Seq.{drop-drop, drop-at, drop-append-add, drop-append-le, take-append-le}
+use lib.Dec.{eqb, ltb}
+use lib.ListN.{length, getD, set, take, drop, replicate, length-append, length-take, length-drop, replicate-append-replicate, List·getD-append}
+use lib.Seq.{getD-append-add, getD-drop, drop-drop, drop-at, drop-append-add, drop-append-le, take-append-le}
 use Rattle.std.proofs.shelf.Tests.{lt-ltb, le-ltb, eq-eqb, ne-eqb, cond-true, cond-false}
 use Rattle.std.specs.declared.option.Option.the-variants.{Some, None}
+use Rattle.sums.specs.Cells.{place-of}
 use Rattle.sums.specs.Tables.{zero-table}
 use Rattle.sums.specs.Pages.{page-bytes, page-sums, page-counts}
 use Rattle.store.specs.Records.{root, root-bytes, root-of, cursor, cursor-bytes, cursor-of, set-number, shadow-of}
@@ -16,7 +17,7 @@ use Rattle.store.specs.Kept.{page-cut}
 use Rattle.store.specs.declared.records.PageSet.{PageSet}
 use Rattle.store.specs.declared.records.PageSet.the-variants as page-set
 use Rattle.gauge.specs.Memory.{asks-root, asks-page, asks-cursor, placed, released, reading, saved, rooted, told, noted, closed, done, page-sums-in, page-counts-in, sums-in, counts-in}
-use Rattle.gauge.specs.Gauge.{tell-next, next-cell, set-named, page-saved}
+use Rattle.gauge.specs.Gauge.{first-counted, first-to-tell, next-cell, cell-told, tell-next, set-named, page-saved}
 use Rattle.machine.specs.Run.{Event, wakes, comes, later, ends, letter, slot, next, Act, more, from, let-go, keep, recall, tells, rests, Step}
 use Rattle.machine.specs.Machine.{reacts, as-step, machine-step}
 use Rattle.machine.specs.Entry.{own}
@@ -135,3 +136,23 @@ module _ (ix bg hr ps st ch cc : ℕ) (ss cs : List ℕ) (zs : length ss ≡ 102
   pub step-saved-root : 8 ≤ ix + 1 → own .step (mem saved ix bg hr ps st ch cc ss cs) next ≡
       does (mem rooted ix bg hr ps (set-number (shadow-of (set-named st))) ch cc ss cs) (keep 0 (root-bytes (root (shadow-of (set-named st)) hr ps)))
   step-saved-root le = steps saved next ∙ ap as-step (cond-false _ _ _ (le-ltb (ix + 1) 8 le))
+
+  sum-at : (ph k : ℕ) → k < 1024 → getD (mem ph ix bg hr ps st ch cc ss cs) (8 + k) 0 ≡ getD ss k 0
+  sum-at ph k lt =
+      let inside : k < length ss = omega arith in
+      getD-append-add (ph ∷ ix ∷ bg ∷ hr ∷ ps ∷ st ∷ ch ∷ cc ∷ []) (ss ++ cs) k 0 ∙ List·getD-append ss cs 0 k inside
+
+  count-at : (ph k : ℕ) → getD (mem ph ix bg hr ps st ch cc ss cs) (1032 + k) 0 ≡ getD cs k 0
+  count-at ph k = sym (getD-drop 1032 (mem ph ix bg hr ps st ch cc ss cs) k 0) ∙ ap (λ l. getD l k 0) (drop-at ss cs 1024 zs)
+
+  pub tell-cell : (ph k : ℕ) → next-cell (mem ph ix bg hr ps st ch cc ss cs) ≡ k → k < 1024 → as-step (tell-next (mem ph ix bg hr ps st ch cc ss cs)) ≡
+      does (mem told ix bg hr ps st hr (k + 1) ss cs) (tells hr (place-of k) (getD ss k 0))
+  tell-cell ph k e lt =
+      ap as-step (cond-true _ _ _ (ap (λ c. ltb c 1024) e ∙ lt-ltb k 1024 lt)) ∙ ap (λ c. as-step (cell-told (mem ph ix bg hr ps st ch cc ss cs) c)) e
+      ∙ ap (λ n. does (mem told ix bg hr ps st hr (k + 1) ss cs) (tells hr (place-of k) n)) (sum-at ph k lt)
+
+  pub tell-close : (ph : ℕ) → 1024 ≤ next-cell (mem ph ix bg hr ps st ch cc ss cs) → hr + 1 < 18446744073709551616 →
+      as-step (tell-next (mem ph ix bg hr ps st ch cc ss cs)) ≡
+      does (mem closed ix bg hr ps st (hr + 1) 0 ss cs) (keep 2 (cursor-bytes (cursor (hr + 1) 0)))
+  tell-close ph le small =
+      ap as-step (cond-false _ _ _ (le-ltb (next-cell (mem ph ix bg hr ps st ch cc ss cs)) 1024 le) ∙ cond-true _ _ _ (lt-ltb (hr + 1) 18446744073709551616 small))
