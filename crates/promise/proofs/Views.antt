@@ -1,15 +1,26 @@
 -- The memory of a machine by its named parts, and each step of the machine on it.
 use mathlib.Core.Path.{_≡_, refl, sym, ap, ap₂, _∙_}
-use mathlib.Core.List.{List, [], _∷_, _++_}
+use mathlib.Core.List.{List, [], _∷_, _++_, append-assoc}
+use mathlib.Core.Bool.{true, false}
+use mathlib.Core.Logic.{_⊎_, ⊎-elim}
 use Prim.Native.Nat.{ℕ, suc, _+_, _*_, _-_, _/_, _≤_, _<_}
+use native.Mathlib.Nat.{add-assoc}
 use native.Mathlib.Omega.{arith}
 use lib.Dec.{eqb, ltb}
-use lib.ListN.{length, getD, set, take, drop, replicate, length-append, length-take, length-drop, replicate-append-replicate, List·getD-append}
-use lib.Seq.{getD-append-add, getD-drop, drop-drop, drop-at, drop-append-add, drop-append-le, take-append-le}
-use Rattle.std.proofs.shelf.Tests.{lt-ltb, le-ltb, eq-eqb, ne-eqb, cond-true, cond-false}
+use lib.ListN.{length, getD, set, take, drop, replicate, length-append, length-set, length-drop, replicate-append-replicate, List·getD-append}
+use lib.Seq.{take-at, take-all, take-append-add, set-append-left, getD-append-add, getD-drop, drop-drop, drop-at, drop-append-add, drop-append-le, take-append-le}
+use Rattle.std.proofs.shelf.Lists.{set-append-right}
+use Rattle.std.proofs.shelf.Tests.{lt-ltb, le-ltb, eq-eqb, ne-eqb, and-from, cond-true, cond-false}
+use Rattle.std.specs.declared.option.Option.{Option}
 use Rattle.std.specs.declared.option.Option.the-variants.{Some, None}
+use Rattle.std.specs.declared.result.Result.the-variants.{Ok}
 use Rattle.sums.specs.Cells.{place-of}
-use Rattle.sums.specs.Tables.{zero-table}
+use Rattle.sums.specs.Written.{written}
+use Rattle.sums.specs.Tables.{zero-table, entry-with}
+use Rattle.sums.specs.Sums.{or}
+use Rattle.sums.specs.declared.tables.Entry.{Entry}
+use Rattle.sums.proofs.Columns.{length-sums, length-counts}
+use Rattle.sums.proofs.Overwrites.{length-written}
 use Rattle.sums.specs.Pages.{page-bytes, page-sums, page-counts}
 use Rattle.store.specs.Records.{root, root-bytes, root-of, cursor, cursor-bytes, cursor-of, set-number, shadow-of}
 use Rattle.store.specs.Drawers.{page-drawer}
@@ -17,7 +28,8 @@ use Rattle.store.specs.Kept.{page-cut}
 use Rattle.store.specs.declared.records.PageSet.{PageSet}
 use Rattle.store.specs.declared.records.PageSet.the-variants as page-set
 use Rattle.gauge.specs.Memory.{asks-root, asks-page, asks-cursor, placed, released, reading, saved, rooted, told, noted, closed, done, page-sums-in, page-counts-in, sums-in, counts-in}
-use Rattle.gauge.specs.Gauge.{first-counted, first-to-tell, next-cell, cell-told, tell-next, set-named, page-saved}
+use Rattle.gauge.specs.Gauge.{first-counted, first-to-tell, next-cell, cell-told, tell-next, accumulated, set-named, page-saved}
+use Rattle.machine.specs.Boot.{page-fits, page-asked-in}
 use Rattle.machine.specs.Run.{Event, wakes, comes, later, ends, letter, slot, next, Act, more, from, let-go, keep, recall, tells, rests, Step}
 use Rattle.machine.specs.Machine.{reacts, as-step, machine-step}
 use Rattle.machine.specs.Entry.{own}
@@ -36,6 +48,23 @@ two-tables n e = rw e (sym (replicate-append-replicate 1024 1024 0))
 pub start-mem : own .start ≡ mem 0 0 0 0 0 0 0 0 zero-table zero-table
 unfolding own
 start-mem = ap (λ l. 0 ∷ 0 ∷ 0 ∷ 0 ∷ 0 ∷ 0 ∷ 0 ∷ 0 ∷ l) (two-tables 2048 refl)
+
+-- writes behind a front, and before a rest
+set-behind : (xs ys : List ℕ) (n c x : ℕ) → length xs ≡ n → set (xs ++ ys) (n + c) x ≡ xs ++ set ys c x
+set-behind xs ys n c x e =
+    let back : n + c - n ≡ c = omega arith in
+    set-append-right xs ys n (n + c) x e (omega arith) ∙ ap (λ k. xs ++ set ys k x) back
+
+written-behind : (xs ys zs : List ℕ) (n c : ℕ) → length xs ≡ n → written (xs ++ ys) (n + c) zs ≡ xs ++ written ys c zs
+written-behind xs ys zs n c e =
+    let front : take (n + c) (xs ++ ys) ≡ xs ++ take c ys = rw (← e) (take-append-add xs ys c) in
+    let rest : drop (n + c + length zs) (xs ++ ys) ≡ drop (c + length zs) ys = rw (← e, add-assoc) (drop-append-add xs ys (c + length zs)) in
+    ap₂ (λ l r. l ++ (zs ++ r)) front rest ∙ append-assoc xs (take c ys) (zs ++ drop (c + length zs) ys)
+
+written-before : (xs ys zs : List ℕ) (c : ℕ) → c + length zs ≤ length xs → written (xs ++ ys) c zs ≡ written xs c zs ++ ys
+written-before xs ys zs c le =
+    let here : c ≤ length xs = omega arith in
+    simp (take-append-le c xs ys here, drop-append-le (c + length zs) xs ys le, append-assoc)
 
 module _ (ix bg hr ps st ch cc : ℕ) (ss cs : List ℕ) (zs : length ss ≡ 1024) (zc : length cs ≡ 1024) where
   length-tables : length (ss ++ cs) ≡ 2048
@@ -156,3 +185,63 @@ module _ (ix bg hr ps st ch cc : ℕ) (ss cs : List ℕ) (zs : length ss ≡ 102
       does (mem closed ix bg hr ps st (hr + 1) 0 ss cs) (keep 2 (cursor-bytes (cursor (hr + 1) 0)))
   tell-close ph le small =
       ap as-step (cond-false _ _ _ (le-ltb (next-cell (mem ph ix bg hr ps st ch cc ss cs)) 1024 le) ∙ cond-true _ _ _ (lt-ltb (hr + 1) 18446744073709551616 small))
+
+  sums-are : (ph : ℕ) → sums-in (mem ph ix bg hr ps st ch cc ss cs) ≡ ss
+  unfolding sums-in
+  sums-are ph = take-at ss cs 1024 zs
+
+  counts-are : (ph : ℕ) → counts-in (mem ph ix bg hr ps st ch cc ss cs) ≡ cs
+  unfolding counts-in
+  counts-are ph = ap (take 1024) (drop-at ss cs 1024 zs) ∙ take-all 1024 cs (omega arith)
+
+  both-set : (ph c x y : ℕ) → c < 1024 → set (set (mem ph ix bg hr ps st ch cc ss cs) (8 + c) x) (1032 + c) y ≡ mem ph ix bg hr ps st ch cc (set ss c x) (set cs c y)
+  both-set ph c x y lt =
+      let front : List ℕ = ph ∷ ix ∷ bg ∷ hr ∷ ps ∷ st ∷ ch ∷ cc ∷ [] in
+      let inside : c < length ss = omega arith in
+      let long : length (front ++ set ss c x) ≡ 1032 = ap (λ n. suc (suc (suc (suc (suc (suc (suc (suc n)))))))) (length-set ss c x ∙ zs) in
+      ap (λ l. set l (1032 + c) y) (set-behind front (ss ++ cs) 8 c x refl ∙ ap (λ l. front ++ l) (set-append-left ss cs c x inside))
+      ∙ set-behind (front ++ set ss c x) cs 1032 c y long
+
+  pub step-takes : (t k v : ℕ) (e : Entry) → t < 4611686018427387904 → k < 1024 → v < 4294967296 → (bg ≡ 0) ⊎ (t / 100 ≡ hr) →
+      entry-with ss cs k v ≡ Ok e → e .cell < 1024 → ps + 1 < 18446744073709551616 → own .step (mem reading ix bg hr ps st ch cc ss cs) (comes t k v) ≡
+      does (mem reading ix 1 (t / 100) (ps + 1) st ch cc (set ss (e .cell) (e .sum)) (set cs (e .cell) (e .count))) more
+  step-takes t k v e ht hk hv hand is inside small =
+      let now : or (eqb bg 0) (eqb (t / 100) hr) ≡ true =
+          ⊎-elim (λ none. rw (eq-eqb bg 0 none))
+          (λ same. elim (eqb bg 0) as (λ b. or b (eqb (t / 100) hr) ≡ true) [ true ↦ refl | false ↦ eq-eqb (t / 100) hr same ]) hand in
+      steps reading (comes t k v)
+      ∙ ap as-step
+      (cond-true _ _ _ (and-from _ _ (lt-ltb t 4611686018427387904 ht) (and-from _ _ (lt-ltb k 1024 hk) (lt-ltb v 4294967296 hv))) ∙ cond-true _ _ _ now
+      ∙ ap (accumulated (mem reading ix bg hr ps st ch cc ss cs) (t / 100)) (ap₂ (λ a b. entry-with a b k v) (sums-are reading) (counts-are reading) ∙ is)
+      ∙ cond-true _ _ _ (lt-ltb (ps + 1) 18446744073709551616 small))
+      ∙ ap (λ l. does (set (set (set l 2 1) 3 (t / 100)) 4 (ps + 1)) more) (both-set reading (e .cell) (e .sum) (e .count) inside)
+
+  both-written : (ph p : ℕ) (xs ys : List ℕ) → length xs ≡ 128 → length ys ≡ 128 → p < 8 →
+      written (written (mem ph ix bg hr ps st ch cc ss cs) (8 + 128 * p) xs) (1032 + 128 * p) ys ≡
+      mem ph ix bg hr ps st ch cc (written ss (128 * p) xs) (written cs (128 * p) ys)
+  both-written ph p xs ys lx ly lt =
+      let front : List ℕ = ph ∷ ix ∷ bg ∷ hr ∷ ps ∷ st ∷ ch ∷ cc ∷ [] in
+      let room : 128 * p + length xs ≤ length ss = omega arith in
+      let long : length (front ++ written ss (128 * p) xs) ≡ 1032 =
+          ap (λ n. suc (suc (suc (suc (suc (suc (suc (suc n)))))))) (length-written ss (128 * p) xs room ∙ zs) in
+      ap (λ l. written l (1032 + 128 * p) ys) (written-behind front (ss ++ cs) xs 8 (128 * p) refl ∙ ap (λ l. front ++ l) (written-before ss cs xs (128 * p) room))
+      ∙ written-behind (front ++ written ss (128 * p) xs) cs ys 1032 (128 * p) long
+
+  page-recalled-at : (bs : List ℕ) (o : Option ℕ) → ix < 8 → page-fits bs ≡ true → page-drawer (set-named st) (ix + 1) ≡ o →
+      own .step (mem asks-page ix bg hr ps st ch cc ss cs) (slot bs) ≡
+      as-step (page-asked-in (mem asks-page ix bg hr ps st ch cc (written ss (128 * ix) (page-sums bs)) (written cs (128 * ix) (page-counts bs))) (ix + 1) o)
+  page-recalled-at bs o lt fits there =
+      steps asks-page (slot bs)
+      ∙ ap as-step
+      (cond-true _ _ _ (and-from _ _ (lt-ltb ix 8 lt) fits)
+      ∙ ap₂ (λ l. page-asked-in l (ix + 1)) (both-written asks-page ix (page-sums bs) (page-counts bs) (length-sums bs) (length-counts bs) lt) there)
+
+  pub step-page : (bs : List ℕ) (d : ℕ) → ix < 8 → page-fits bs ≡ true → page-drawer (set-named st) (ix + 1) ≡ Some d →
+      own .step (mem asks-page ix bg hr ps st ch cc ss cs) (slot bs) ≡
+      does (mem asks-page (ix + 1) bg hr ps st ch cc (written ss (128 * ix) (page-sums bs)) (written cs (128 * ix) (page-counts bs))) (recall d)
+  step-page bs d lt fits there = page-recalled-at bs (Some d) lt fits there
+
+  pub step-page-last : (bs : List ℕ) → ix < 8 → page-fits bs ≡ true → page-drawer (set-named st) (ix + 1) ≡ None →
+      own .step (mem asks-page ix bg hr ps st ch cc ss cs) (slot bs) ≡
+      does (mem asks-cursor ix bg hr ps st ch cc (written ss (128 * ix) (page-sums bs)) (written cs (128 * ix) (page-counts bs))) (recall 2)
+  step-page-last bs lt fits there = page-recalled-at bs None lt fits there
