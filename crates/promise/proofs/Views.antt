@@ -1,16 +1,16 @@
 -- The memory of a machine by its named parts, and each step of the machine on it.
-use mathlib.Core.Path.{_≡_, refl, sym, ap, ap₂, _∙_}
+use mathlib.Core.Path.{_≡_, refl, sym, ap, ap₂, subst, _∙_}
 use mathlib.Core.List.{List, [], _∷_, _++_, append-assoc}
-use mathlib.Core.Bool.{true, false}
+use mathlib.Core.Bool.{true, false, cond}
 use mathlib.Core.Logic.{_⊎_, ⊎-elim}
-use Prim.Native.Nat.{ℕ, suc, _+_, _*_, _-_, _/_, _≤_, _<_}
-use native.Mathlib.Nat.{add-assoc}
+use Prim.Native.Nat.{ℕ, zero, suc, _+_, _*_, _-_, _/_, _≤_, _<_}
+use native.Mathlib.Nat.{add-assoc, le-trans}
 use native.Mathlib.Omega.{arith}
 use lib.Dec.{eqb, ltb}
 use lib.ListN.{length, getD, set, take, drop, replicate, length-append, length-set, length-drop, replicate-append-replicate, List·getD-append}
 use lib.Seq.{take-at, take-all, take-append-add, set-append-left, getD-append-add, getD-drop, drop-drop, drop-at, drop-append-add, drop-append-le, take-append-le}
 use Rattle.std.proofs.shelf.Lists.{set-append-right}
-use Rattle.std.proofs.shelf.Tests.{lt-ltb, le-ltb, eq-eqb, ne-eqb, and-from, cond-true, cond-false}
+use Rattle.std.proofs.shelf.Tests.{ltb-true, ltb-false, eqb-true, eqb-false, cases-eq, cond-both, lt-ltb, le-ltb, eq-eqb, ne-eqb, and-from, cond-true, cond-false}
 use Rattle.std.specs.declared.option.Option.{Option}
 use Rattle.std.specs.declared.option.Option.the-variants.{Some, None}
 use Rattle.std.specs.declared.result.Result.the-variants.{Ok}
@@ -65,6 +65,42 @@ written-before : (xs ys zs : List ℕ) (c : ℕ) → c + length zs ≤ length xs
 written-before xs ys zs c le =
     let here : c ≤ length xs = omega arith in
     simp (take-append-le c xs ys here, drop-append-le (c + length zs) xs ys le, append-assoc)
+
+-- the first cell that is counted, from one on: what is behind it is not
+record Found (m : List ℕ) (c k : ℕ) : Type 0 where
+  low : k < 1024 → c ≤ k
+  counted : k < 1024 → getD m (1032 + k) 0 ≡ 0 → ⊥
+  skipped : (j : ℕ) → c ≤ j → j < k → getD m (1032 + j) 0 ≡ 0
+
+scanned : (m : List ℕ) (c n : ℕ) → c + n ≡ 1024 → Found m c (first-counted m c n)
+unfolding first-counted
+scanned m c zero e = record { low = λ lt. absurd (omega arith); counted = λ lt z. omega arith; skipped = λ j le lt. absurd (omega arith) }
+scanned m c (suc n) e =
+    cond-both (eqb (getD m (1032 + c) 0) 0) (first-counted m (suc c) n) c (λ k. Found m c k)
+    (λ none.
+        let rest : Found m (suc c) (first-counted m (suc c) n) = scanned m (suc c) n (omega arith) in
+        record {
+          low = λ lt. omega (arith, rest .low lt);
+          counted = rest .counted;
+          skipped = λ j le lt. ⊎-elim
+            (λ same. rw same (eqb-true (getD m (1032 + c) 0) 0 none))
+            (λ apart. rest .skipped j (omega arith) lt) (cases-eq j c);
+        })
+    (λ some. record { low = λ lt. omega arith; counted = λ lt z. eqb-false (getD m (1032 + c) 0) 0 some z; skipped = λ j le lt. absurd (omega arith) })
+
+scanned-from : (m : List ℕ) (f : ℕ) → Found m f (cond (ltb f 1024) (first-counted m f (1024 - f)) 1024)
+scanned-from m f =
+    cond-both (ltb f 1024) (first-counted m f (1024 - f)) 1024 (λ k. Found m f k)
+    (λ some. scanned m f (1024 - f) (omega (arith, ltb-true f 1024 some)))
+    (λ none. record {
+      low = λ lt. absurd (omega arith);
+      counted = λ lt z. omega arith;
+      skipped = λ j le lt. absurd (omega (arith, ltb-false f 1024 none));
+    })
+
+-- the first cell of an hour that is not told, by the cursor
+abbrev pub first-cell : (hr ch cc : ℕ) → ℕ
+first-cell hr ch cc = cond (eqb ch hr) cc (cond (ltb ch hr) 0 1024)
 
 module _ (ix bg hr ps st ch cc : ℕ) (ss cs : List ℕ) (zs : length ss ≡ 1024) (zc : length cs ≡ 1024) where
   length-tables : length (ss ++ cs) ≡ 2048
@@ -245,3 +281,14 @@ module _ (ix bg hr ps st ch cc : ℕ) (ss cs : List ℕ) (zs : length ss ≡ 102
       own .step (mem asks-page ix bg hr ps st ch cc ss cs) (slot bs) ≡
       does (mem asks-cursor ix bg hr ps st ch cc (written ss (128 * ix) (page-sums bs)) (written cs (128 * ix) (page-counts bs))) (recall 2)
   step-page-last bs lt fits there = page-recalled-at bs None lt fits there
+
+  pub cell-found : (ph k : ℕ) → next-cell (mem ph ix bg hr ps st ch cc ss cs) ≡ k → k < 1024 →
+      (first-cell hr ch cc ≤ k) × (getD cs k 0 ≡ 0 → ⊥) × ((c : ℕ) → first-cell hr ch cc ≤ c → c < k → getD cs c 0 ≡ 0)
+  cell-found ph k e lt =
+      let found : Found (mem ph ix bg hr ps st ch cc ss cs) (first-cell hr ch cc) k =
+          subst (λ n. Found (mem ph ix bg hr ps st ch cc ss cs) (first-cell hr ch cc) n) e (scanned-from (mem ph ix bg hr ps st ch cc ss cs) (first-cell hr ch cc)) in
+      (found .low lt, λ z. found .counted lt (count-at ph k ∙ z), λ c le under. sym (count-at ph c) ∙ found .skipped c le under)
+
+  pub cells-none : (ph : ℕ) → 1024 ≤ next-cell (mem ph ix bg hr ps st ch cc ss cs) → (c : ℕ) → first-cell hr ch cc ≤ c → c < 1024 → getD cs c 0 ≡ 0
+  cells-none ph none c le lt =
+      sym (count-at ph c) ∙ scanned-from (mem ph ix bg hr ps st ch cc ss cs) (first-cell hr ch cc) .skipped c le (le-trans lt none)
