@@ -19,23 +19,27 @@ mod tests {
     use store::records::RootPartialEq;
 
     // Set 2, hour 258, place 70,000 of the row.
-    const ROOT: Root = Root { set: PageSet::Second, hour: 258, pos: 70_000 };
-    const ROOT_BYTES: [u8; 24] = [
-        2, 0, 0, 0, 0, 0, 0, 0, 2, 1, 0, 0, 0, 0, 0, 0, 112, 17, 1, 0, 0, 0, 0, 0,
-    ];
+    const ROOT: Root = Root {
+        set: PageSet::Second,
+        hour: 258,
+        pos: 70_000,
+    };
 
     #[test]
     fn root_by_hand() -> Result<(), Fail> {
         let mut out = [9u8; 26];
         ROOT.encode(&mut out)?;
-        check(&out[0..24] == &ROOT_BYTES)?;
-        check(&out[24..26] == &[9, 9])?;
+        check(&out[0..16] == &[2, 0, 0, 0, 0, 0, 0, 0, 2, 1, 0, 0, 0, 0, 0, 0])?;
+        check(&out[16..26] == &[112, 17, 1, 0, 0, 0, 0, 0, 9, 9])?;
         check_eq(Root::decode(&out[0..24]), ROOT)
     }
 
     #[test]
     fn cursor_by_hand() -> Result<(), Fail> {
-        let cursor = Cursor { hour: 0x0102_0304_0506_0708, cell: 1023 };
+        let cursor = Cursor {
+            hour: 0x0102_0304_0506_0708,
+            cell: 1023,
+        };
         let mut out = [9u8; 17];
         cursor.encode(&mut out)?;
         check(&out == &[8, 7, 6, 5, 4, 3, 2, 1, 255, 3, 0, 0, 0, 0, 0, 0, 9])?;
@@ -45,20 +49,25 @@ mod tests {
     #[test]
     fn no_records() -> Result<(), Fail> {
         check_eq(Root::decode(&[]), Root::ZERO)?;
-        check_eq(Root::decode(&ROOT_BYTES[0..23]), Root::ZERO)?;
-        check_eq(Root::decode(&[2; 25]), Root::ZERO)?;
-        let mut third_set = ROOT_BYTES;
-        third_set[0] = 3;
-        check_eq(Root::decode(&third_set), Root::ZERO)?;
         check_eq(Cursor::decode(&[]), Cursor::ZERO)?;
-        check_eq(Cursor::decode(&ROOT_BYTES), Cursor::ZERO)
+        let mut bytes = [0u8; 25];
+        ROOT.encode(&mut bytes)?;
+        check_eq(Root::decode(&bytes[0..23]), Root::ZERO)?;
+        check_eq(Root::decode(&bytes), Root::ZERO)?;
+        check_eq(Cursor::decode(&bytes[0..24]), Cursor::ZERO)?;
+        // There is no set of number 3.
+        bytes[0] = 3;
+        check_eq(Root::decode(&bytes[0..24]), Root::ZERO)
     }
 
     #[test]
     fn too_short() -> Result<(), Fail> {
         let mut out = [9u8; 23];
         check_eq(ROOT.encode(&mut out), Err(RecordError::TooShort))?;
-        check_eq(Cursor::ZERO.encode(&mut out[0..15]), Err(RecordError::TooShort))?;
+        check_eq(
+            Cursor::ZERO.encode(&mut out[0..15]),
+            Err(RecordError::TooShort),
+        )?;
         check(&out == &[9u8; 23])
     }
 
