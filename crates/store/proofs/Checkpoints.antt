@@ -5,15 +5,14 @@ use mathlib.Core.Logic.{⊎-elim}
 use Prim.Native.Nat.{ℕ, zero, suc, _≤_, _<_}
 use native.Mathlib.Omega.{arith}
 use lib.ListN.{length, replicate, length-set}
-use Rattle.std.specs.declared.option.Option.{Option}
-use Rattle.std.specs.declared.option.Option.the-variants.{Some, None}
+use Rattle.std.specs.declared.option.Option.the-variants.{Some}
 use Rattle.std.proofs.shelf.Lists.{getD-set-same, getD-set-other}
 use Rattle.std.proofs.shelf.Tests.{cases-eq}
-use Rattle.sums.specs.Cells.{places, pages, slots}
+use Rattle.sums.specs.Cells.{pages, slots}
 use Rattle.sums.specs.Pages.{sum-width, count-width}
 use Rattle.sums.specs.Tables.{zero-table}
 use Rattle.store.specs.Drawers.{Drawers, drawers, drawer-at, with-drawer, root-drawer, cursor-drawer, page-drawer}
-use Rattle.store.specs.Kept.{Kept, kept, kept-of, sums-in, counts-in, table-in, page-cut}
+use Rattle.store.specs.Kept.{kept, kept-of, sums-in, counts-in, table-in, page-cut}
 use Rattle.store.specs.Laws.{Tables-fit, Shadow-law, cut-bytes, Pages-kept, Commit-law, with-page, with-pages, Atomic-law, Cursor-law, Blank-law, Empty-law, Checkpoint-laws}
 use Rattle.store.specs.Records.{shadow-of, Root-fits, Cursor-fits, zero-root, root-bytes, root-of, zero-cursor, cursor-bytes, cursor-of}
 use Rattle.store.specs.declared.records.Cursor.{Cursor}
