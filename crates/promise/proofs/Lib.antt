@@ -6,6 +6,7 @@ pub mod Views
 pub mod Knows
 pub mod Runs
 pub mod Ranks
+pub mod Drawing
 pub mod Turns
 pub mod Start
 pub mod Others

@@ -46,7 +46,7 @@ module _ (rs : List Reading) (ts : List Told-sum) where
     pub cursor : Cursor-true rs ts ch cc
     pub hour-small : small (hr + 1)
     pub cursor-small : small ch
-    pub cell-small : cc ≤ places
+    pub cell-small : small cc
     pub sums-length : length ss ≡ places
     pub counts-length : length cs ≡ places
     pub newer : kept-of ds .root .pos ≤ ps

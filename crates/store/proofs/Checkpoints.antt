@@ -5,17 +5,16 @@ use mathlib.Core.Logic.{⊎-elim}
 use Prim.Native.Nat.{ℕ, zero, suc, _≤_, _<_}
 use native.Mathlib.Omega.{arith}
 use lib.ListN.{length, replicate, length-set}
-use Rattle.std.specs.declared.option.Option.{Option}
-use Rattle.std.specs.declared.option.Option.the-variants.{Some, None}
+use Rattle.std.specs.declared.option.Option.the-variants.{Some}
 use Rattle.std.proofs.shelf.Lists.{getD-set-same, getD-set-other}
 use Rattle.std.proofs.shelf.Tests.{cases-eq}
-use Rattle.sums.specs.Cells.{places, pages, slots}
+use Rattle.sums.specs.Cells.{pages, slots}
 use Rattle.sums.specs.Pages.{sum-width, count-width}
 use Rattle.sums.specs.Tables.{zero-table}
 use Rattle.store.specs.Drawers.{Drawers, drawers, drawer-at, with-drawer, root-drawer, cursor-drawer, page-drawer}
-use Rattle.store.specs.Kept.{Kept, kept, kept-of, sums-in, counts-in, table-in, page-cut}
-use Rattle.store.specs.Laws.{Root-fits, Cursor-fits, Tables-fit, Shadow-law, cut-bytes, Pages-kept, Commit-law, with-page, with-pages, Atomic-law, Cursor-law, Blank-law, Empty-law, Checkpoint-laws}
-use Rattle.store.specs.Records.{shadow-of, zero-root, root-bytes, root-of, zero-cursor, cursor-bytes, cursor-of}
+use Rattle.store.specs.Kept.{kept, kept-of, sums-in, counts-in, table-in, page-cut}
+use Rattle.store.specs.Laws.{Tables-fit, Shadow-law, cut-bytes, Pages-kept, Commit-law, with-page, with-pages, Atomic-law, Cursor-law, Blank-law, Empty-law, Checkpoint-laws}
+use Rattle.store.specs.Records.{shadow-of, Root-fits, Cursor-fits, zero-root, root-bytes, root-of, zero-cursor, cursor-bytes, cursor-of}
 use Rattle.store.specs.declared.records.Cursor.{Cursor}
 use Rattle.store.specs.declared.records.PageSet.{PageSet}
 use Rattle.store.specs.declared.records.PageSet.the-variants.{First, Second}
@@ -84,7 +83,7 @@ module _ (ds : Drawers) (len : length ds ≡ drawers) where
 
     root-there : root-of (drawer-at rooted root-drawer) ≡ r
     unfolding rooted
-    root-there = ap root-of (getD-set-same ds root-drawer (root-bytes r) [] (omega arith)) ∙ root-back r (fits .hour) (fits .pos)
+    root-there = ap root-of (getD-set-same ds root-drawer (root-bytes r) [] (omega arith)) ∙ root-back r fits
 
     cursor-stays : cursor-of (drawer-at rooted cursor-drawer) ≡ kept-of ds .cursor
     unfolding rooted kept-of
@@ -109,8 +108,10 @@ module _ (ds : Drawers) (len : length ds ≡ drawers) where
       where
         ls : (p d : ℕ) → page-drawer (r .set) p ≡ Some d → length (page-cut p ss) ≡ slots
         ls p d at = length-cut p ss (fit .sums-length) (page-within (r .set) p d at)
+
         lc : (p d : ℕ) → page-drawer (r .set) p ≡ Some d → length (page-cut p cs) ≡ slots
         lc p d at = length-cut p cs (fit .counts-length) (page-within (r .set) p d at)
+
         page : (p d : ℕ) → page-drawer (r .set) p ≡ Some d → drawer-at rooted d ≡ cut-bytes p ss cs
         page p d at =
             getD-set-other ds root-drawer d (root-bytes r) [] (λ e. omega (arith, page-apart (r .set) p d at))
@@ -132,7 +133,7 @@ module _ (ds : Drawers) (len : length ds ≡ drawers) where
       kept-is es (kept-of ds .root) (kept-of ds .sums) (kept-of ds .counts) c
       (ap root-of (getD-set-other ds cursor-drawer root-drawer (cursor-bytes c) [] (λ e. omega arith)))
       (table-same sums-in es ds s same) (table-same counts-in es ds s same)
-      (ap cursor-of (getD-set-same ds cursor-drawer (cursor-bytes c) [] (omega arith)) ∙ cursor-back c (fits .hour) (fits .cell))
+      (ap cursor-of (getD-set-same ds cursor-drawer (cursor-bytes c) [] (omega arith)) ∙ cursor-back c fits)
 
   module _ (s : PageSet) (ss cs : List ℕ) (some : s ≡ page-set.None → ⊥) (other : s ≡ kept-of ds .root .set → ⊥) where
     -- the pages of a checkpoint, one by one

@@ -4,7 +4,6 @@ use mathlib.Core.Bool.{Bool, true, cond}
 use mathlib.Core.List.{List, [], _∷_}
 use Prim.Native.Nat.{ℕ, suc, _+_, _*_, _^_, _<_}
 use native.Mathlib.Omega.{arith}
-use lib.Dec.{eqb}
 use lib.ListN.{length, getD, drop, replicate, length-replicate, length-drop}
 use Rattle.std.specs.Results.{isOk}
 use Rattle.std.proofs.shelf.Lists.{getD-take, getD-drop, length-take-le}

@@ -1,18 +1,17 @@
 -- Records as bytes: how long they are, that each byte is one, and that what is read is what was written.
 use mathlib.Core.Path.{_≡_, refl, sym, ap, _∙_}
 use mathlib.Core.Bool.{true}
-use mathlib.Core.List.{List, [], _∷_, _++_, append-nil}
-use Prim.Native.Nat.{ℕ, _*_, _<_}
-use native.Mathlib.Omega.{arith}
-use lib.Dec.{eqb, ltb, lit<}
-use lib.ListN.{length, getD, drop, take}
+use mathlib.Core.List.{List, [], _∷_, append-nil}
+use Prim.Native.Nat.{ℕ, _<_}
+use lib.Dec.{ltb, lit<}
+use lib.ListN.{length, getD, take}
 use Rattle.std.specs.declared.option.Option.the-variants.{Some}
 use Rattle.std.proofs.shelf.Lists.{drop-drop}
 use Rattle.std.proofs.shelf.Tests.{and-from, lt-ltb, eq-eqb, ne-eqb}
 use Rattle.sums.specs.Digits.{value, fits, row-bytes, row-numbers}
 use Rattle.sums.specs.Sums.{every}
 use Rattle.sums.proofs.Digits.{length-row, numbers-back, row-all-bytes}
-use Rattle.store.specs.Records.{set-number, set-with, number-width, number-limit, number-at, zero-root, root-length, root-bytes, root-of, zero-cursor, cursor-length, cursor-bytes, cursor-of, Root-round-trip, Cursor-round-trip}
+use Rattle.store.specs.Records.{set-number, numbered-set, number-width, number-limit, number-at, zero-root, root-length, root-bytes, root-of, zero-cursor, cursor-length, cursor-bytes, cursor-of, Root-fits, Cursor-fits, Root-round-trip, Cursor-round-trip}
 use Rattle.store.specs.declared.records.Cursor.{Cursor}
 use Rattle.store.specs.declared.records.PageSet.{PageSet}
 use Rattle.store.specs.declared.records.PageSet.the-variants.{First, Second}
@@ -20,7 +19,7 @@ use Rattle.store.specs.declared.records.PageSet.the-variants as page-set
 use Rattle.store.specs.declared.records.Root.{Root}
 
 -- a set is that of its number
-set-back : (s : PageSet) → set-with (set-number s) ≡ Some s
+pub set-back : (s : PageSet) → numbered-set (set-number s) ≡ Some s
 set-back page-set.None = refl
 set-back First = refl
 set-back Second = refl
@@ -39,13 +38,13 @@ pub length-root : (r : Root) → length (root-bytes r) ≡ root-length
 unfolding root-bytes
 length-root r = length-row number-width (set-number (r .set) ∷ r .hour ∷ r .pos ∷ [])
 
-pub root-back : (r : Root) → r .hour < number-limit → r .pos < number-limit → root-of (root-bytes r) ≡ r
+pub root-back : (r : Root) → Root-fits r → root-of (root-bytes r) ≡ r
 unfolding root-of root-bytes row-numbers every
-root-back r hour pos =
+root-back r small =
     let ns : List ℕ = set-number (r .set) ∷ r .hour ∷ r .pos ∷ [] in
     let bs = row-bytes number-width ns in
     let all : every (fits number-width) ns ≡ true =
-    and-from _ _ (lt-ltb _ _ (set-fits (r .set))) (and-from _ _ (lt-ltb _ _ hour) (and-from _ _ (lt-ltb _ _ pos) refl)) in
+    and-from _ _ (lt-ltb _ _ (set-fits (r .set))) (and-from _ _ (lt-ltb _ _ (small .hour)) (and-from _ _ (lt-ltb _ _ (small .pos)) refl)) in
     let back = row-back ns all in
     let first : number-at 0 bs ≡ set-number (r .set) = ap (λ l. getD l 0 0) back in
     let second : number-at 1 bs ≡ r .hour = ap (λ l. getD l 1 0) back in
@@ -56,12 +55,12 @@ pub length-cursor : (c : Cursor) → length (cursor-bytes c) ≡ cursor-length
 unfolding cursor-bytes
 length-cursor c = length-row number-width (c .hour ∷ c .cell ∷ [])
 
-pub cursor-back : (c : Cursor) → c .hour < number-limit → c .cell < number-limit → cursor-of (cursor-bytes c) ≡ c
+pub cursor-back : (c : Cursor) → Cursor-fits c → cursor-of (cursor-bytes c) ≡ c
 unfolding cursor-of cursor-bytes row-numbers every
-cursor-back c hour cell =
+cursor-back c small =
     let ns : List ℕ = c .hour ∷ c .cell ∷ [] in
     let bs = row-bytes number-width ns in
-    let back = row-back ns (and-from _ _ (lt-ltb _ _ hour) (and-from _ _ (lt-ltb _ _ cell) refl)) in
+    let back = row-back ns (and-from _ _ (lt-ltb _ _ (small .hour)) (and-from _ _ (lt-ltb _ _ (small .cell)) refl)) in
     let first : number-at 0 bs ≡ c .hour = ap (λ l. getD l 0 0) back in
     let second : number-at 1 bs ≡ c .cell = ap (λ l. getD l 1 0) back in
     simp (eq-eqb (length bs) cursor-length (length-cursor c), first, second)

@@ -11,21 +11,13 @@ use Rattle.sums.specs.Tables.{zero-table}
 use Rattle.sums.specs.Written.{written}
 use Rattle.store.specs.Drawers.{Drawers, drawers, drawer-at, with-drawer, root-drawer, cursor-drawer, page-drawer}
 use Rattle.store.specs.Kept.{kept, kept-of, sums-in, counts-in, page-cut}
-use Rattle.store.specs.Records.{shadow-of, number-limit, zero-root, root-bytes, root-of, zero-cursor, cursor-bytes, cursor-of}
+use Rattle.store.specs.Records.{shadow-of, Root-fits, Cursor-fits, zero-root, root-bytes, root-of, zero-cursor, cursor-bytes, cursor-of}
 use Rattle.store.specs.declared.records.Cursor.{Cursor}
 use Rattle.store.specs.declared.records.PageSet.{PageSet}
 use Rattle.store.specs.declared.records.PageSet.the-variants as page-set
 use Rattle.store.specs.declared.records.Root.{Root}
 
--- numbers that records and pages hold
-pub record Root-fits (r : Root) : Type 0 where
-  pub hour : r .hour < number-limit
-  pub pos : r .pos < number-limit
-
-pub record Cursor-fits (c : Cursor) : Type 0 where
-  pub hour : c .hour < number-limit
-  pub cell : c .cell < number-limit
-
+-- tables whose numbers pages hold
 pub record Tables-fit (ss cs : List ℕ) : Type 0 where
   pub sums-length : length ss ≡ places
   pub counts-length : length cs ≡ places

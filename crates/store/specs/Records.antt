@@ -24,8 +24,8 @@ set-number page-set.None = 0
 set-number First = 1
 set-number Second = 2
 
-abbrev pub set-with : (number : ℕ) → Option PageSet
-set-with n = cond (eqb n 0) (Some page-set.None) (cond (eqb n 1) (Some First) (cond (eqb n 2) (Some Second) None))
+abbrev pub numbered-set : (number : ℕ) → Option PageSet
+numbered-set n = cond (eqb n 0) (Some page-set.None) (cond (eqb n 1) (Some First) (cond (eqb n 2) (Some Second) None))
 
 -- the set that the next checkpoint writes
 abbrev pub shadow-of : PageSet → PageSet
@@ -71,7 +71,7 @@ root-with (Some s) h p = Some (root s h p)
 
 -- the root record that bytes are, if any
 abbrev pub root-in : List ℕ → Option Root
-root-in bs = cond (eqb (length bs) root-length) (root-with (set-with (number-at 0 bs)) (number-at 1 bs) (number-at 2 bs)) None
+root-in bs = cond (eqb (length bs) root-length) (root-with (numbered-set (number-at 0 bs)) (number-at 1 bs) (number-at 2 bs)) None
 
 abbrev pub root-or-zero : Option Root → Root
 root-or-zero None = zero-root
@@ -106,20 +106,23 @@ cursor-or-zero (Some c) = c
 unfoldable pub cursor-of : List ℕ → Cursor
 cursor-of bs = cursor-or-zero (cursor-in bs)
 
--- A root record of bytes has its length, and gives back numbers that fit. What has another length stands for the zero record.
+-- records whose numbers fit
+pub record Root-fits (r : Root) : Type 0 where
+  pub hour : r .hour < number-limit
+  pub pos : r .pos < number-limit
+
+pub record Cursor-fits (c : Cursor) : Type 0 where
+  pub hour : c .hour < number-limit
+  pub cell : c .cell < number-limit
+
+-- A root record has its length in bytes, and is read back where its numbers fit. What has another length stands for the zero record.
 unfoldable pub Root-round-trip : Type 0
 Root-round-trip =
-    ((r : Root) →
-    (length (root-bytes r) ≡ root-length)
-    × (every (λ b. ltb b 256) (root-bytes r) ≡ true)
-    × (r .hour < number-limit → r .pos < number-limit → root-of (root-bytes r) ≡ r))
+    ((r : Root) → (length (root-bytes r) ≡ root-length) × (every (λ b. ltb b 256) (root-bytes r) ≡ true) × (Root-fits r → root-of (root-bytes r) ≡ r))
     × ((bs : List ℕ) → (length bs ≡ root-length → ⊥) → root-of bs ≡ zero-root)
 
--- So it is of a cursor.
+-- The same of a cursor.
 unfoldable pub Cursor-round-trip : Type 0
 Cursor-round-trip =
-    ((c : Cursor) →
-    (length (cursor-bytes c) ≡ cursor-length)
-    × (every (λ b. ltb b 256) (cursor-bytes c) ≡ true)
-    × (c .hour < number-limit → c .cell < number-limit → cursor-of (cursor-bytes c) ≡ c))
+    ((c : Cursor) → (length (cursor-bytes c) ≡ cursor-length) × (every (λ b. ltb b 256) (cursor-bytes c) ≡ true) × (Cursor-fits c → cursor-of (cursor-bytes c) ≡ c))
     × ((bs : List ℕ) → (length bs ≡ cursor-length → ⊥) → cursor-of bs ≡ zero-cursor)

@@ -5,9 +5,11 @@ use crate::records::PageSet;
 use sums::cells::PAGES;
 
 const ROOT: u8 = 0;
+
 const CURSOR: u8 = 2;
 // The pages of a set lie in drawers side by side.
 const FIRST_SET: u8 = 8;
+
 const SECOND_SET: u8 = 16;
 
 pub fn root_drawer() -> u8

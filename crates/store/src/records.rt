@@ -1,6 +1,9 @@
 // The root record and the cursor, by value and as bytes.
 ghost use mathlib.Core.Path.{_≡_};
-ghost use Rattle.store.specs.Records.{set-number, set-with, shadow-of, record-answer, record-written, root-length, root-bytes, root-in, root-of, cursor-length, cursor-bytes, cursor-in, cursor-of, Root-round-trip, Cursor-round-trip};
+ghost use Prim.Native.Nat.{_*_};
+ghost use lib.ListN.{length};
+ghost use Rattle.sums.specs.Digits.{row-bytes};
+ghost use Rattle.store.specs.Records.{set-number, numbered-set, shadow-of, number-width, record-answer, record-written, root-length, root-bytes, root-in, root-of, cursor-length, cursor-bytes, cursor-in, cursor-of, Root-round-trip, Cursor-round-trip};
 use sums::numbers::read_number;
 use sums::numbers::write_row;
 
@@ -11,6 +14,17 @@ const WIDTH: usize = 8;
 pub enum RecordError {
     // There are too few bytes for the record.
     TooShort,
+}
+
+// Writes the numbers of a record over the front of the bytes.
+fn write_record(numbers: &[u64], out: &mut [u8]) -> Result<(), RecordError>
+    ensures told { λ r. ⌜ r ≡ record-answer (number-width * length (now (numbers .entry))) (now (out .entry)) ⌝ }
+    ensures out { λ _. ⌜ now (out .exit) ≡ record-written (number-width * length (now (numbers .entry))) (row-bytes number-width (now (numbers .entry))) (now (out .entry)) ⌝ }
+{
+    let Ok(()) = write_row(numbers, WIDTH, out) else {
+        return Err(RecordError::TooShort);
+    };
+    Ok(())
 }
 
 // The pages that a root record names: none, or those of one of two sets.
@@ -34,7 +48,7 @@ impl PageSet {
 
     // The set of a number, if it is that of one.
     pub fn from_number(number: u64) -> Option<PageSet>
-        ensures { λ r. ⌜ r ≡ set-with number ⌝ }
+        ensures { λ r. ⌜ r ≡ numbered-set number ⌝ }
     {
         match number {
             0 => Some(PageSet::None),
@@ -64,19 +78,20 @@ pub struct Root {
 }
 
 impl Root {
+    pub const BYTES: usize = 3 * WIDTH;
     // What an empty drawer stands for.
-    pub const ZERO: Root = Root { set: PageSet::None, hour: 0, pos: 0 };
+    pub const ZERO: Root = Root {
+        set: PageSet::None,
+        hour: 0,
+        pos: 0,
+    };
 
     // Writes the record over the front of the bytes.
     pub fn encode(self, out: &mut [u8]) -> Result<(), RecordError>
         ensures told { λ r. ⌜ r ≡ record-answer root-length (now (out .entry)) ⌝ }
         ensures out { λ _. ⌜ now (out .exit) ≡ record-written root-length (root-bytes self) (now (out .entry)) ⌝ }
     {
-        let numbers = [self.set.number(), self.hour, self.pos];
-        let Ok(()) = write_row(&numbers, WIDTH, out) else {
-            return Err(RecordError::TooShort);
-        };
-        Ok(())
+        write_record(&[self.set.number(), self.hour, self.pos], out)
     }
 
     // Reads a drawer: any bytes that are no root record stand for the zero record.
@@ -92,12 +107,12 @@ impl Root {
     fn read(bytes: &[u8]) -> Option<Root>
         ensures { λ r. ⌜ r ≡ root-in (now (bytes .entry)) ⌝ }
     {
-        let (number, rest) = read_number(bytes, WIDTH)?;
-        let (hour, rest) = read_number(rest, WIDTH)?;
-        let (pos, rest) = read_number(rest, WIDTH)?;
-        if !rest.is_empty() {
+        if bytes.len() != Root::BYTES {
             return None;
         }
+        let (number, rest) = read_number(bytes, WIDTH)?;
+        let (hour, rest) = read_number(rest, WIDTH)?;
+        let (pos, _) = read_number(rest, WIDTH)?;
         let set = PageSet::from_number(number)?;
         Some(Root { set, hour, pos })
     }
@@ -111,6 +126,7 @@ pub struct Cursor {
 }
 
 impl Cursor {
+    pub const BYTES: usize = 2 * WIDTH;
     // What an empty drawer stands for.
     pub const ZERO: Cursor = Cursor { hour: 0, cell: 0 };
 
@@ -119,10 +135,7 @@ impl Cursor {
         ensures told { λ r. ⌜ r ≡ record-answer cursor-length (now (out .entry)) ⌝ }
         ensures out { λ _. ⌜ now (out .exit) ≡ record-written cursor-length (cursor-bytes self) (now (out .entry)) ⌝ }
     {
-        let Ok(()) = write_row(&[self.hour, self.cell], WIDTH, out) else {
-            return Err(RecordError::TooShort);
-        };
-        Ok(())
+        write_record(&[self.hour, self.cell], out)
     }
 
     // Reads a drawer: any bytes that are no cursor stand for the zero cursor.
@@ -138,11 +151,11 @@ impl Cursor {
     fn read(bytes: &[u8]) -> Option<Cursor>
         ensures { λ r. ⌜ r ≡ cursor-in (now (bytes .entry)) ⌝ }
     {
-        let (hour, rest) = read_number(bytes, WIDTH)?;
-        let (cell, rest) = read_number(rest, WIDTH)?;
-        if !rest.is_empty() {
+        if bytes.len() != Cursor::BYTES {
             return None;
         }
+        let (hour, rest) = read_number(bytes, WIDTH)?;
+        let (cell, _) = read_number(rest, WIDTH)?;
         Some(Cursor { hour, cell })
     }
 }
@@ -154,7 +167,7 @@ pub fn root_round_trip() -> u8
     0
 }
 
-// Theorem: so has a cursor.
+// Theorem: the same of a cursor.
 pub fn cursor_round_trip() -> u8
     ensures { λ _. ⌜ Cursor-round-trip ⌝ }
 {
