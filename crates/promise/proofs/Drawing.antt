@@ -11,8 +11,8 @@ use Rattle.sums.specs.Sums.{Reading, Told-sum}
 use Rattle.sums.specs.Tables.{zero-table}
 use Rattle.store.specs.Drawers.{Drawers, drawers, drawer-at, root-drawer, cursor-drawer, page-drawer}
 use Rattle.store.specs.Kept.{kept-of}
-use Rattle.store.specs.Laws.{Root-fits, Cursor-fits, Tables-fit, Pages-kept, cut-bytes}
-use Rattle.store.specs.Records.{root, root-bytes, cursor, cursor-bytes, set-number, shadow-of}
+use Rattle.store.specs.Laws.{Tables-fit, Pages-kept, cut-bytes}
+use Rattle.store.specs.Records.{root, root-bytes, cursor, cursor-bytes, set-number, shadow-of, Root-fits, Cursor-fits}
 use Rattle.store.specs.declared.records.PageSet.the-variants as page-set
 use Rattle.promise.proofs.Knows.{Holds, Cursor-true, Shut, Open}
 use Rattle.promise.proofs.Rows.{Fine}

@@ -12,8 +12,8 @@ use Rattle.sums.specs.Sums.{Reading, Told-sum}
 use Rattle.sums.specs.Tables.{zero-table}
 use Rattle.store.specs.Drawers.{Drawers, drawers, drawer-at, root-drawer, cursor-drawer, page-drawer}
 use Rattle.store.specs.Kept.{kept-of}
-use Rattle.store.specs.Laws.{Root-fits, Cursor-fits, Pages-kept, Read-back}
-use Rattle.store.specs.Records.{set-number, shadow-of}
+use Rattle.store.specs.Laws.{Pages-kept, Read-back}
+use Rattle.store.specs.Records.{set-number, shadow-of, Root-fits, Cursor-fits}
 use Rattle.store.specs.declared.records.PageSet.the-variants as page-set
 use Rattle.gauge.specs.Memory.{asks-root, asks-page, asks-cursor, placed, released, reading, saved, rooted, told, noted, closed, done}
 use Rattle.machine.specs.Run.{Event, wakes, comes, later, ends, slot, next}
