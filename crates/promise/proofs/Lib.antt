@@ -8,6 +8,7 @@ pub mod Runs
 pub mod Ranks
 pub mod Drawing
 pub mod Turns
+pub mod Phases
 pub mod Start
 pub mod Others
 pub mod Calm
