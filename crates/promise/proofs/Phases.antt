@@ -20,18 +20,22 @@ use Rattle.sums.specs.declared.tables.Entry.{Entry}
 use Rattle.sums.proofs.Places.{cell-fits}
 use Rattle.store.specs.Drawers.{Drawers, drawer-at, root-drawer, cursor-drawer, page-drawer}
 use Rattle.store.specs.Kept.{kept-of}
-use Rattle.store.specs.Records.{set-number, shadow-of}
+use Rattle.store.specs.Records.{set-number, shadow-of, root, root-bytes, cursor, cursor-bytes}
+use Rattle.store.specs.declared.records.PageSet.{PageSet}
+use Rattle.store.specs.declared.records.PageSet.the-variants as page-set
 use Rattle.machine.specs.Run.{World, Machine, machine, machine-at, nth-row, Event, wakes, comes, later, ends, slot, next, one-step}
 use Rattle.machine.specs.Entry.{own}
 use Rattle.machine.specs.Machine.{as-step}
 use Rattle.gauge.specs.Gauge.{tell-next, next-cell}
 use Rattle.promise.specs.Promise.{core}
 use Rattle.promise.proofs.Knows.{Holds, Cursor-true, Over, Shut, Open, cell-right, cell-told, hour-told, open-first, open-next, over-end, over-other, shut-after}
+use Rattle.promise.proofs.Drawing.{drawn-cursor, kept-cursor, drawn-page, kept-page, drawn-root, kept-root, drawn-blank, kept-blank, booted-drawers, tables-fit}
+use Rattle.promise.proofs.Drawing.{cursor-bytes-fit, root-bytes-fit, page-bytes-fit, page-there, set-named-back, open-of}
 use Rattle.promise.proofs.Ranks.{rank}
 use Rattle.promise.proofs.Rows.{Fine, row-fine, fits-at}
 use Rattle.promise.proofs.Runs.{Drawn, Booted, Runs, waking, at-root, at-page, at-cursor, at-rooted, at-placed, at-released, at-comes, at-ends, at-later, at-saved, at-told, at-noted, at-closed, at-done, small, booted-more}
 use Rattle.promise.proofs.Turns.{Good, Stepped, keeps, recalls, froms, releases, rests-now, tells-row, asks-more}
-use Rattle.promise.proofs.Views.{mem, does, start-mem, step-wakes, step-placed, step-released, step-rooted, step-told, step-done, step-closed, step-takes, step-over, step-ends-open, step-ends-shut, step-noted, tell-cell, tell-close, cell-found, cells-none}
+use Rattle.promise.proofs.Views.{mem, does, start-mem, step-wakes, step-placed, step-released, step-rooted, step-told, step-done, step-closed, step-takes, step-over, step-ends-open, step-ends-shut, step-noted, tell-cell, tell-close, cell-found, cells-none, first-cell}
 
 zeros : length zero-table ≡ places
 unfolding zero-table
@@ -161,3 +165,63 @@ module _ (gs : Gauges) (fine : gauges-fine gs ≡ true) (w : World) (i : ℕ) (l
             sums-length = b .sums-length; counts-length = b .counts-length; newer = b .newer; room = b .room } in
         tells-row gs w i lt g M ev at gone ds is (mem 9 ix 1 hr ps st hr (k + 1) ss cs) hr (place-of k) (getD ss k 0)
         (step ∙ tell-cell ix 1 hr ps st ch cc ss cs (b .sums-length) (b .counts-length) ph k found low) ok (at-told ix hr ps st (k + 1) at gone ds ss cs b₂ over) less
+
+    closes : 1024 ≤ next-cell M → 10000 * (length rs - ps) + 4000 < rank (length rs) M (ev ∷ []) → Next M ev
+    closes none less =
+        let o : Open rs ts hr ps ss cs = b .holds in
+        let known : Cursor-true rs ts (hr + 1) 0 =
+            hour-told rs ts (row-fine gs i fine) hr ps ss cs o over ch cc (b .cursor) (cells-none ix 1 hr ps st ch cc ss cs (b .sums-length) (b .counts-length) ph none) in
+        let es = set ds 2 (cursor-bytes (cursor (hr + 1) 0)) in
+        let d₁ : Drawn rs ts gone (set ds 2 (cursor-bytes (cursor (hr + 1) 0))) = drawn-cursor rs ts gone ds (b .drawn) (hr + 1) 0 (b .hour-small) (lit< tt) known in
+        let b₁ : Booted rs ts gone (set ds 2 (cursor-bytes (cursor (hr + 1) 0))) 1 hr ps st ch cc ss cs =
+            booted-drawers rs ts gone ds es 1 hr ps st ch cc ss cs b d₁ (kept-cursor rs ts gone ds (b .drawn) (hr + 1) 0 (b .hour-small) (lit< tt)) in
+        keeps gs w i lt g M ev at gone ds is (mem 11 ix 1 hr ps st (hr + 1) 0 ss cs) 2 (cursor-bytes (cursor (hr + 1) 0))
+        (step ∙ tell-close ix 1 hr ps st ch cc ss cs (b .sums-length) (b .counts-length) ph none (b .hour-small)) (lit< tt) (cursor-bytes-fit (hr + 1) 0)
+        (at-closed ix hr ps st at gone es ss cs (with-cursor es b₁ (hr + 1) 0 known (b .hour-small) (lit< tt)) over) less
+      where
+        with-cursor : (es : Drawers) → Booted rs ts gone es 1 hr ps st ch cc ss cs → (h c : ℕ) → Cursor-true rs ts h c → small h → small c →
+            Booted rs ts gone es 1 hr ps st h c ss cs
+        with-cursor es e h c known lh lc = record {
+            drawn = e .drawn; holds = e .holds; flag = e .flag; set = e .set; cursor = known; hour-small = e .hour-small; cursor-small = lh; cell-small = lc;
+            sums-length = e .sums-length; counts-length = e .counts-length; newer = e .newer; room = e .room }
+
+    -- one of the two, where the cells left and the cells told make the rank less
+    tells-on : ((k : ℕ) → first-cell hr ch cc ≤ k → k < 1024 → 10000 * (length rs - ps) + (5001 + 2 * (1024 - (k + 1))) < rank (length rs) M (ev ∷ [])) →
+        10000 * (length rs - ps) + 4000 < rank (length rs) M (ev ∷ []) → Next M ev
+    tells-on less-cell less-close = ⊎-elim
+        (λ (low : next-cell M < 1024). tells-cell (next-cell M) refl low
+            (less-cell (next-cell M) (cell-found ix 1 hr ps st ch cc ss cs (b .sums-length) (b .counts-length) ph (next-cell M) refl low .0) low))
+        (λ (high : 1024 ≤ next-cell M). closes high less-close)
+        (cases-lt (next-cell M) 1024)
+
+  -- THE CURSOR OF WHAT WAS TOLD IS KEPT
+  notes : (ix hr ps st cc at gone : ℕ) (ds : Drawers) (ss cs : List ℕ) → Is (mem 9 ix 1 hr ps st hr cc ss cs) next at gone ds → Booted rs ts gone ds 1 hr ps st hr cc ss cs →
+      Over rs hr ps → Next (mem 9 ix 1 hr ps st hr cc ss cs) next
+  notes ix hr ps st cc at gone ds ss cs is b over =
+      let es = set ds 2 (cursor-bytes (cursor hr cc)) in
+      let d₁ : Drawn rs ts gone (set ds 2 (cursor-bytes (cursor hr cc))) = drawn-cursor rs ts gone ds (b .drawn) hr cc (b .cursor-small) (b .cell-small) (b .cursor) in
+      keeps gs w i lt g _ next at gone ds is (mem 10 ix 1 hr ps st hr cc ss cs) 2 (cursor-bytes (cursor hr cc))
+      (step-told ix 1 hr ps st hr cc ss cs (b .sums-length) (b .counts-length)) (lit< tt) (cursor-bytes-fit hr cc)
+      (at-noted ix hr ps st cc at gone es ss cs
+          (booted-drawers rs ts gone ds es 1 hr ps st hr cc ss cs b d₁ (kept-cursor rs ts gone ds (b .drawn) hr cc (b .cursor-small) (b .cell-small))) over)
+      (omega arith)
+
+  -- THE HOUR IS DONE WITH: a blank root record
+  clears : (ix hr ps st at gone : ℕ) (ds : Drawers) (ss cs : List ℕ) → Is (mem 11 ix 1 hr ps st (hr + 1) 0 ss cs) next at gone ds →
+      Booted rs ts gone ds 1 hr ps st (hr + 1) 0 ss cs → Over rs hr ps → Next (mem 11 ix 1 hr ps st (hr + 1) 0 ss cs) next
+  clears ix hr ps st at gone ds ss cs is b over =
+      let es = set ds 0 (root-bytes (root page-set.None 0 ps)) in
+      let o : Open rs ts hr ps ss cs = b .holds in
+      let ps-small : small ps = omega (arith, o .within, row-fine gs i fine .few) in
+      let low : gone ≤ ps = omega (arith, b .drawn .low, b .newer) in
+      let shut : Shut rs ts ps zero-table zero-table = shut-after rs ts (row-fine gs i fine) hr ps ss cs o over (b .cursor) in
+      let d₁ : Drawn rs ts gone (set ds 0 (root-bytes (root page-set.None 0 ps))) = drawn-blank rs ts gone ds (b .drawn) ps ps-small low (b .room) shut in
+      let k : kept-of (set ds 0 (root-bytes (root page-set.None 0 ps))) .root ≡ root page-set.None 0 ps = kept-blank rs ts gone ds (b .drawn) ps ps-small in
+      keeps gs w i lt g _ next at gone ds is (mem 8 ix 0 hr ps 0 (hr + 1) 0 zero-table zero-table) 0 (root-bytes (root page-set.None 0 ps))
+      (step-closed ix 1 hr ps st (hr + 1) 0 ss cs (b .sums-length) (b .counts-length)) (lit< tt) (root-bytes-fit page-set.None 0 ps)
+      (at-rooted ix 0 hr ps 0 (hr + 1) 0 at gone es zero-table zero-table
+          (record {
+            drawn = d₁; holds = shut; flag = inl refl; set = sym (ap (λ r. set-number (r .set)) k); cursor = b .cursor; hour-small = b .hour-small; cursor-small = b .cursor-small;
+            cell-small = b .cell-small; sums-length = zeros; counts-length = zeros; newer = subst (λ n. n ≤ ps) (sym (ap (λ r. r .pos) k)) (omega arith); room = b .room })
+          (ap (λ r. r .pos) k))
+      (omega arith)
