@@ -8,10 +8,10 @@ use native.Mathlib.Numerals.{add-one}
 use native.Mathlib.Omega.{arith}
 use lib.Dec.{lit<}
 use lib.ListN.{length, getD, set}
-use Rattle.std.specs.declared.option.Option.the-variants.{Some}
+use Rattle.std.specs.declared.option.Option.the-variants.{Some, None}
 use Rattle.std.specs.declared.result.Result.the-variants.{Ok}
 use Rattle.std.proofs.shelf.Lists.{length-set}
-use Rattle.std.proofs.shelf.Tests.{and-from, eq-eqb, cases-lt, cases-eq}
+use Rattle.std.proofs.shelf.Tests.{and-from, and-parts, eq-eqb, eqb-true, le-ltb, cond-false, cases-lt, cases-eq}
 use Rattle.sums.specs.Cells.{places, pages, cell-of, place-of}
 use Rattle.sums.specs.Parts.{no-reading}
 use Rattle.sums.specs.Sums.{Reading, Gauges, Told-sum, hour-of, is-right, all-of, gauges-fine, any, those, belongs, added-up}
@@ -19,14 +19,21 @@ use Rattle.sums.specs.Tables.{zero-table, entry-of, next-reading}
 use Rattle.sums.specs.declared.tables.Entry.{Entry}
 use Rattle.sums.proofs.Places.{cell-fits}
 use Rattle.store.specs.Drawers.{Drawers, drawer-at, root-drawer, cursor-drawer, page-drawer}
-use Rattle.store.specs.Kept.{kept-of}
-use Rattle.store.specs.Records.{set-number, shadow-of, root, root-bytes, cursor, cursor-bytes}
+use Rattle.store.specs.Kept.{Kept, kept-of, sums-in, counts-in}
+use Rattle.store.proofs.Boots.{boot-law}
+use Rattle.store.specs.Laws.{Pages-kept, cut-bytes, Read-back}
+use Rattle.store.proofs.Checkpoints.{shadow-other, page-more}
+use Rattle.store.proofs.Numbered.{page-has-drawer, page-apart, page-within}
+use Rattle.store.specs.Records.{set-number, shadow-of, root, root-bytes, root-of, cursor, cursor-bytes}
 use Rattle.store.specs.declared.records.PageSet.{PageSet}
 use Rattle.store.specs.declared.records.PageSet.the-variants as page-set
-use Rattle.machine.specs.Run.{World, Machine, machine, machine-at, nth-row, Event, wakes, comes, later, ends, slot, next, one-step}
+use Rattle.machine.specs.Run.{World, Machine, machine, machine-at, nth-row, Event, wakes, comes, later, ends, slot, next, one-step, keep}
 use Rattle.machine.specs.Entry.{own}
 use Rattle.machine.specs.Machine.{as-step}
-use Rattle.gauge.specs.Gauge.{tell-next, next-cell}
+use Rattle.machine.specs.Boot.{page-fits}
+use Rattle.sums.specs.Pages.{page-sums, page-counts, page-length}
+use Rattle.sums.specs.Written.{written}
+use Rattle.gauge.specs.Gauge.{tell-next, next-cell, set-named}
 use Rattle.promise.specs.Promise.{core}
 use Rattle.promise.proofs.Knows.{Holds, Cursor-true, Over, Shut, Open, cell-right, cell-told, hour-told, open-first, open-next, over-end, over-other, shut-after}
 use Rattle.promise.proofs.Drawing.{drawn-cursor, kept-cursor, drawn-page, kept-page, drawn-root, kept-root, drawn-blank, kept-blank, booted-drawers, tables-fit}
@@ -35,7 +42,7 @@ use Rattle.promise.proofs.Ranks.{rank}
 use Rattle.promise.proofs.Rows.{Fine, row-fine, fits-at}
 use Rattle.promise.proofs.Runs.{Drawn, Booted, Runs, waking, at-root, at-page, at-cursor, at-rooted, at-placed, at-released, at-comes, at-ends, at-later, at-saved, at-told, at-noted, at-closed, at-done, small, booted-more}
 use Rattle.promise.proofs.Turns.{Good, Stepped, keeps, recalls, froms, releases, rests-now, tells-row, asks-more}
-use Rattle.promise.proofs.Views.{mem, does, start-mem, step-wakes, step-placed, step-released, step-rooted, step-told, step-done, step-closed, step-takes, step-over, step-ends-open, step-ends-shut, step-noted, tell-cell, tell-close, cell-found, cells-none, first-cell}
+use Rattle.promise.proofs.Views.{mem, does, start-mem, step-wakes, step-placed, step-released, step-rooted, step-told, step-done, step-closed, step-takes, step-over, step-ends-open, step-ends-shut, step-noted, tell-cell, tell-close, cell-found, cells-none, first-cell, step-filled, step-saved, step-saved-root, step-root-none, step-root-some, step-page, step-page-last, step-cursor}
 
 zeros : length zero-table ≡ places
 unfolding zero-table
@@ -225,3 +232,186 @@ module _ (gs : Gauges) (fine : gauges-fine gs ≡ true) (w : World) (i : ℕ) (l
             cell-small = b .cell-small; sums-length = zeros; counts-length = zeros; newer = subst (λ n. n ≤ ps) (sym (ap (λ r. r .pos) k)) (omega arith); room = b .room })
           (ap (λ r. r .pos) k))
       (omega arith)
+
+  -- A CHECKPOINT
+  module _ (hr ps st ch cc gone : ℕ) (ds : Drawers) (ss cs : List ℕ) (b : Booted rs ts gone ds 1 hr ps st ch cc ss cs) where
+    abbrev shadow : PageSet
+    shadow = shadow-of (kept-of ds .root .set)
+
+    named : set-named st ≡ kept-of ds .root .set
+    named = ap set-named (b .set) ∙ set-named-back (kept-of ds .root .set)
+
+    shadow-drawer : (p d : ℕ) → page-drawer shadow p ≡ Some d → page-drawer (shadow-of (set-named st)) p ≡ Some d
+    shadow-drawer p d e = ap (λ s. page-drawer (shadow-of s) p) named ∙ e
+
+    -- a page is kept, the one behind those that are
+    saves : (ph ix p : ℕ) (ev : Event) → Is (mem ph ix 1 hr ps st ch cc ss cs) ev ps gone ds → p < pages → Pages-kept ds shadow ss cs p →
+        ((d : ℕ) → page-drawer shadow p ≡ Some d → own .step (mem ph ix 1 hr ps st ch cc ss cs) ev ≡ does (mem 7 p 1 hr ps st ch cc ss cs) (keep d (cut-bytes p ss cs))) →
+        10000 * (length rs - ps) + (8900 - p) < rank (length rs) (mem ph ix 1 hr ps st ch cc ss cs) (ev ∷ []) → Next (mem ph ix 1 hr ps st ch cc ss cs) ev
+    saves ph ix p ev is low kept step less =
+        let there = page-has-drawer shadow p (shadow-other (kept-of ds .root .set) .0) low in
+        let d = there .0 in
+        let far = page-apart shadow p d (there .1) in
+        let es = set ds d (cut-bytes p ss cs) in
+        let same : kept-of (set ds (there .0) (cut-bytes p ss cs)) ≡ kept-of ds = kept-page rs ts gone ds (b .drawn) p d (cut-bytes p ss cs) (there .1) in
+        let more-kept : Pages-kept (set ds (there .0) (cut-bytes p ss cs)) shadow ss cs (suc p) = page-more ds shadow ss cs p d (b .drawn .size) kept (there .1) in
+        keeps gs w i lt g _ ev ps gone ds is (mem 7 p 1 hr ps st ch cc ss cs) d (cut-bytes p ss cs) (step d (there .1)) (omega (arith, far))
+        (page-bytes-fit p ss cs low (b .sums-length) (b .counts-length))
+        (at-saved p hr ps st ch cc gone es ss cs
+            (booted-drawers rs ts gone ds es 1 hr ps st ch cc ss cs b (drawn-page rs ts gone ds (b .drawn) p d (cut-bytes p ss cs) (there .1)) (ap (λ k. k .root) same)) low
+            (subst (λ s. Pages-kept es (shadow-of s) ss cs (suc p)) (sym (ap (λ k. k .root .set) same)) more-kept))
+        less
+
+    -- all pages are kept: the root record is the commit
+    commits : (p : ℕ) → Is (mem 7 p 1 hr ps st ch cc ss cs) next ps gone ds → p < pages → 8 ≤ p + 1 → Pages-kept ds shadow ss cs (suc p) → Next (mem 7 p 1 hr ps st ch cc ss cs) next
+    commits p is low last kept =
+        let o : Open rs ts hr ps ss cs = b .holds in
+        let eight : suc p ≡ pages = omega arith in
+        let all : Pages-kept ds shadow ss cs pages = subst (λ n. Pages-kept ds shadow ss cs n) eight kept in
+        let ps-small : small ps = omega (arith, o .within, row-fine gs i fine .few) in
+        let behind : gone ≤ ps = omega (arith, b .drawn .low, b .newer) in
+        let es = set ds 0 (root-bytes (root shadow hr ps)) in
+        let fit = tables-fit rs ts (row-fine gs i fine) hr ps ss cs o in
+        let d₁ : Drawn rs ts gone (set ds 0 (root-bytes (root shadow hr ps))) = drawn-root rs ts gone ds (b .drawn) hr ps ss cs (b .hour-small) ps-small behind (b .room) fit o all in
+        let k : kept-of (set ds 0 (root-bytes (root shadow hr ps))) .root ≡ root shadow hr ps = kept-root rs ts gone ds (b .drawn) hr ps (b .hour-small) ps-small in
+        let step : own .step (mem 7 p 1 hr ps st ch cc ss cs) next ≡ does (mem 8 p 1 hr ps (set-number shadow) ch cc ss cs) (keep 0 (root-bytes (root shadow hr ps))) =
+            step-saved-root p 1 hr ps st ch cc ss cs (b .sums-length) (b .counts-length) last
+            ∙ ap (λ s. does (mem 8 p 1 hr ps (set-number (shadow-of s)) ch cc ss cs) (keep 0 (root-bytes (root (shadow-of s) hr ps)))) named in
+        keeps gs w i lt g _ next ps gone ds is (mem 8 p 1 hr ps (set-number shadow) ch cc ss cs) 0 (root-bytes (root shadow hr ps)) step (lit< tt) (root-bytes-fit shadow hr ps)
+        (at-rooted p 1 hr ps (set-number shadow) ch cc ps gone es ss cs
+            (record {
+              drawn = d₁; holds = o; flag = inr refl; set = sym (ap (λ r. set-number (r .set)) k); cursor = b .cursor; hour-small = b .hour-small; cursor-small = b .cursor-small;
+              cell-small = b .cell-small; sums-length = b .sums-length; counts-length = b .counts-length; newer = subst (λ n. n ≤ ps) (sym (ap (λ r. r .pos) k)) (omega arith); room = b .room })
+            (ap (λ r. r .pos) k))
+        (omega arith)
+
+    saves-next : (p : ℕ) → Is (mem 7 p 1 hr ps st ch cc ss cs) next ps gone ds → p < pages → Pages-kept ds shadow ss cs (suc p) → Next (mem 7 p 1 hr ps st ch cc ss cs) next
+    saves-next p is low kept = ⊎-elim
+        (λ (another : p + 1 < 8). saves 7 p (p + 1) next is another (subst (λ n. Pages-kept ds shadow ss cs n) (sym (add-one p)) kept)
+            (λ d e. step-saved p 1 hr ps st ch cc ss cs (b .sums-length) (b .counts-length) d another (shadow-drawer (p + 1) d e)) (omega arith))
+        (λ (last : 8 ≤ p + 1). commits p is low last kept)
+        (cases-lt (p + 1) 8)
+
+  -- BOOT, FROM THE DRAWERS ALONE
+  module _ (gone : ℕ) (ds : Drawers) (d : Drawn rs ts gone ds) where
+    abbrev K : Kept
+    K = kept-of ds
+
+    root-there : root-of (drawer-at ds 0) ≡ K .root
+    root-there = sym (boot-law .root ds)
+
+    -- the root record names no pages
+    boots-blank : Is (mem 1 0 0 0 0 0 0 0 zero-table zero-table) (slot (drawer-at ds 0)) gone gone ds → K .root .set ≡ page-set.None →
+        Next (mem 1 0 0 0 0 0 0 0 zero-table zero-table) (slot (drawer-at ds 0))
+    boots-blank is none =
+        let zero-tables = boot-law .blank ds none in
+        let is-root : root-of (drawer-at ds 0) ≡ root page-set.None (K .root .hour) (K .root .pos) = root-there ∙ ap (λ s. root s (K .root .hour) (K .root .pos)) none in
+        let shut : Holds rs ts 0 (K .root .hour) (K .root .pos) (K .sums) (K .counts) =
+            subst (λ s. Holds rs ts (set-number s) (K .root .hour) (K .root .pos) (K .sums) (K .counts)) none (d .holds) in
+        let runs : Runs rs ts (mem 3 0 0 (K .root .hour) (K .root .pos) (set-number (K .root .set)) 0 0 (K .sums) (K .counts)) (slot (drawer-at ds 2) ∷ []) gone gone ds =
+            at-cursor 0 0 gone ds d (inl refl) shut in
+        let here : mem 3 0 0 (K .root .hour) (K .root .pos) (set-number (K .root .set)) 0 0 (K .sums) (K .counts) ≡
+            mem 3 0 0 (K .root .hour) (K .root .pos) 0 0 0 zero-table zero-table =
+            (λ n. mem 3 0 0 (K .root .hour) (K .root .pos) (set-number (none n)) 0 0 (zero-tables .0 n) (zero-tables .1 n)) in
+        recalls gs w i lt g _ _ gone gone ds is (mem 3 0 0 (K .root .hour) (K .root .pos) 0 0 0 zero-table zero-table) 2
+        (step-root-none 0 0 0 0 0 0 0 zero-table zero-table zeros zeros (drawer-at ds 0) (K .root .hour) (K .root .pos) is-root (d .root-fits .hour) (d .root-fits .pos)) (lit< tt)
+        (subst (λ m. Runs rs ts m (slot (drawer-at ds 2) ∷ []) gone gone ds) here runs) (omega arith)
+
+    number-some : (s : PageSet) → (s ≡ page-set.None → ⊥) → set-number s ≡ 0 → ⊥
+    number-some page-set.None some e = some refl
+    number-some page-set.First some e = omega arith
+    number-some page-set.Second some e = omega arith
+
+    -- it names pages: the first is asked for
+    boots-pages : Is (mem 1 0 0 0 0 0 0 0 zero-table zero-table) (slot (drawer-at ds 0)) gone gone ds → (K .root .set ≡ page-set.None → ⊥) →
+        Next (mem 1 0 0 0 0 0 0 0 zero-table zero-table) (slot (drawer-at ds 0))
+    boots-pages is some =
+        let there = page-has-drawer (K .root .set) 0 some (lit< tt) in
+        let far = page-apart (K .root .set) 0 (there .0) (there .1) in
+        recalls gs w i lt g _ _ gone gone ds is (mem 2 0 1 (K .root .hour) (K .root .pos) (set-number (K .root .set)) 0 0 zero-table zero-table) (there .0)
+        (step-root-some 0 0 0 0 0 0 0 zero-table zero-table zeros zeros (drawer-at ds 0) (K .root .set) (K .root .hour) (K .root .pos) (there .0) root-there
+            (number-some (K .root .set) some) (d .root-fits .hour) (d .root-fits .pos) (there .1))
+        (omega (arith, far)) (at-page 0 (there .0) gone ds zero-table zero-table d some (there .1) (boot-law .begun ds zero-table zero-table zeros zeros)) (omega arith)
+
+    boots : Is (mem 1 0 0 0 0 0 0 0 zero-table zero-table) (slot (drawer-at ds 0)) gone gone ds → Next (mem 1 0 0 0 0 0 0 0 zero-table zero-table) (slot (drawer-at ds 0))
+    boots is = ⊎-elim (boots-blank is) (boots-pages is) (blank-or-not (K .root .set))
+      where
+        blank-or-not : (s : PageSet) → (s ≡ page-set.None) ⊎ (s ≡ page-set.None → ⊥)
+        blank-or-not page-set.None = inl refl
+        blank-or-not page-set.First = inr (λ e. let z : _≡_ {A = ℕ} 0 1 = cc in omega arith)
+        blank-or-not page-set.Second = inr (λ e. let z : _≡_ {A = ℕ} 0 1 = cc in omega arith)
+
+    -- a page is read
+    module _ (p e : ℕ) (ss cs : List ℕ) (some : K .root .set ≡ page-set.None → ⊥) (at : page-drawer (K .root .set) p ≡ Some e) (back : Read-back ds p ss cs) where
+      abbrev P : List ℕ
+      P = mem 2 p 1 (K .root .hour) (K .root .pos) (set-number (K .root .set)) 0 0 ss cs
+
+      abbrev bs : List ℕ
+      bs = drawer-at ds e
+
+      low : p < 8
+      low = page-within (K .root .set) p e at
+
+      fit : page-fits bs ≡ true
+      fit = page-there rs ts gone ds (row-fine gs i fine) d p e some at
+
+      long : length bs ≡ page-length
+      long = eqb-true _ _ (and-parts _ _ fit .0)
+
+      back₁ : Read-back ds (suc p) (written ss (128 * p) (page-sums bs)) (written cs (128 * p) (page-counts bs))
+      back₁ =
+          let same = boot-law .pages-only bs long in
+          subst (λ x. Read-back ds (suc p) (written ss (128 * p) x) (written cs (128 * p) (page-counts bs))) (same .0)
+          (subst (λ x. Read-back ds (suc p) (written ss (128 * p) (sums-in bs)) (written cs (128 * p) x)) (same .1) (boot-law .one-more ds p e ss cs at back))
+
+      drawer-named : (q : ℕ) → page-drawer (set-named (set-number (K .root .set))) q ≡ page-drawer (K .root .set) q
+      drawer-named q = ap (λ s. page-drawer s q) (set-named-back (K .root .set))
+
+      reads-page : Is P (slot bs) gone gone ds → Next P (slot bs)
+      reads-page is = ⊎-elim
+          (λ (another : p + 1 < 8).
+              let there = page-has-drawer (K .root .set) (p + 1) some another in
+              let far = page-apart (K .root .set) (p + 1) (there .0) (there .1) in
+              recalls gs w i lt g P (slot bs) gone gone ds is
+                  (mem 2 (p + 1) 1 (K .root .hour) (K .root .pos) (set-number (K .root .set)) 0 0 (written ss (128 * p) (page-sums bs)) (written cs (128 * p) (page-counts bs))) (there .0)
+              (step-page p 1 (K .root .hour) (K .root .pos) (set-number (K .root .set)) 0 0 ss cs (back .sums-length) (back .counts-length) bs (there .0) low fit
+                  (drawer-named (p + 1) ∙ there .1))
+              (omega (arith, far))
+              (at-page (p + 1) (there .0) gone ds _ _ d some (there .1)
+                  (subst (λ n. Read-back ds n (written ss (128 * p) (page-sums bs)) (written cs (128 * p) (page-counts bs))) (sym (add-one p)) back₁)) (omega arith))
+          (λ (last : 8 ≤ p + 1).
+              let eight : suc p ≡ 8 = omega (arith, low) in
+              let whole = boot-law .done ds _ _ (subst (λ n. Read-back ds n (written ss (128 * p) (page-sums bs)) (written cs (128 * p) (page-counts bs))) eight back₁) in
+              let opened : Open rs ts (K .root .hour) (K .root .pos) (K .sums) (K .counts) = open-of rs ts (K .root .set) (K .root .hour) (K .root .pos) (K .sums) (K .counts) some (d .holds) in
+              recalls gs w i lt g P (slot bs) gone gone ds is
+                  (mem 3 p 1 (K .root .hour) (K .root .pos) (set-number (K .root .set)) 0 0 (written ss (128 * p) (page-sums bs)) (written cs (128 * p) (page-counts bs))) 2
+              (step-page-last p 1 (K .root .hour) (K .root .pos) (set-number (K .root .set)) 0 0 ss cs (back .sums-length) (back .counts-length) bs low fit
+                  (drawer-named (p + 1) ∙ no-page (K .root .set) (p + 1) last))
+              (lit< tt)
+              (subst (λ m. Runs rs ts m (slot (drawer-at ds 2) ∷ []) gone gone ds)
+                  (λ n. mem 3 p 1 (K .root .hour) (K .root .pos) (set-number (K .root .set)) 0 0 (sym (whole .0) n) (sym (whole .1) n)) (at-cursor p 1 gone ds d (inr refl) opened))
+              (omega arith))
+          (cases-lt (p + 1) 8)
+        where
+          no-page : (s : PageSet) (q : ℕ) → 8 ≤ q → page-drawer s q ≡ None
+          no-page page-set.None q le = refl
+          no-page page-set.First q le = cond-false _ _ _ (le-ltb q 8 le)
+          no-page page-set.Second q le = cond-false _ _ _ (le-ltb q 8 le)
+
+    -- the cursor is read: the row is read from pos on
+    reads-cursor : (ix bg : ℕ) → Is (mem 3 ix bg (K .root .hour) (K .root .pos) (set-number (K .root .set)) 0 0 (K .sums) (K .counts)) (slot (drawer-at ds 2)) gone gone ds →
+        (bg ≡ 0) ⊎ (bg ≡ 1) → Holds rs ts bg (K .root .hour) (K .root .pos) (K .sums) (K .counts) →
+        Next (mem 3 ix bg (K .root .hour) (K .root .pos) (set-number (K .root .set)) 0 0 (K .sums) (K .counts)) (slot (drawer-at ds 2))
+    reads-cursor ix bg is flag holds =
+        let lengths = boot-law .lengths ds in
+        let few : bg ≤ 1 = at-most-one ix bg 0 0 0 0 0 [] [] flag in
+        froms gs w i lt g _ _ gone gone ds is (mem 4 ix bg (K .root .hour) (K .root .pos) (set-number (K .root .set)) (K .cursor .hour) (K .cursor .cell) (K .sums) (K .counts)) (K .root .pos)
+        (step-cursor ix bg (K .root .hour) (K .root .pos) (set-number (K .root .set)) 0 0 (K .sums) (K .counts) (lengths .0) (lengths .1) (drawer-at ds 2) (K .cursor .hour) (K .cursor .cell)
+            (sym (boot-law .cursor ds)) (d .cursor-fits .hour) (d .cursor-fits .cell))
+        (d .low) (d .high)
+        (at-placed ix bg (K .root .hour) (K .root .pos) (set-number (K .root .set)) (K .cursor .hour) (K .cursor .cell) gone ds (K .sums) (K .counts)
+            (record {
+              drawn = d; holds = holds; flag = flag; set = refl; cursor = d .cursor; hour-small = d .hour-small; cursor-small = d .cursor-fits .hour; cell-small = d .cursor-fits .cell;
+              sums-length = lengths .0; counts-length = lengths .1; newer = omega arith; room = d .high })
+            refl)
+        (omega arith)
