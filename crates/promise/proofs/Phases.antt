@@ -11,13 +11,14 @@ use lib.ListN.{length, getD, set}
 use Rattle.std.specs.declared.option.Option.the-variants.{Some, None}
 use Rattle.std.specs.declared.result.Result.the-variants.{Ok}
 use Rattle.std.proofs.shelf.Lists.{length-set}
-use Rattle.std.proofs.shelf.Tests.{and-from, and-parts, eq-eqb, eqb-true, le-ltb, cond-false, cases-lt, cases-eq}
+use Rattle.std.proofs.shelf.Tests.{and-from, and-parts, eq-eqb, eqb-true, le-ltb, cond-true, cond-false, cases-lt, cases-eq}
 use Rattle.sums.specs.Cells.{places, pages, cell-of, place-of}
 use Rattle.sums.specs.Parts.{no-reading}
 use Rattle.sums.specs.Sums.{Reading, Gauges, Told-sum, hour-of, is-right, all-of, gauges-fine, any, those, belongs, added-up}
-use Rattle.sums.specs.Tables.{zero-table, entry-of, next-reading}
+use Rattle.sums.specs.Tables.{zero-table, entry-of, next-reading, Tables-of, with-sum, with-count}
 use Rattle.sums.specs.declared.tables.Entry.{Entry}
 use Rattle.sums.proofs.Places.{cell-fits}
+use Rattle.sums.proofs.Taken.{tables-zeros, entry-fits}
 use Rattle.store.specs.Drawers.{Drawers, drawer-at, root-drawer, cursor-drawer, page-drawer}
 use Rattle.store.specs.Kept.{Kept, kept-of, sums-in, counts-in}
 use Rattle.store.proofs.Boots.{boot-law}
@@ -35,11 +36,11 @@ use Rattle.sums.specs.Pages.{page-sums, page-counts, page-length}
 use Rattle.sums.specs.Written.{written}
 use Rattle.gauge.specs.Gauge.{tell-next, next-cell, set-named}
 use Rattle.promise.specs.Promise.{core}
-use Rattle.promise.proofs.Knows.{Holds, Cursor-true, Over, Shut, Open, cell-right, cell-told, hour-told, open-first, open-next, over-end, over-other, shut-after}
+use Rattle.promise.proofs.Knows.{hour-at, Holds, Cursor-true, Over, Shut, Open, cell-right, cell-told, hour-told, open-first, open-next, over-end, over-other, shut-after}
 use Rattle.promise.proofs.Drawing.{drawn-cursor, kept-cursor, drawn-page, kept-page, drawn-root, kept-root, drawn-blank, kept-blank, booted-drawers, tables-fit}
 use Rattle.promise.proofs.Drawing.{cursor-bytes-fit, root-bytes-fit, page-bytes-fit, page-there, set-named-back, open-of}
 use Rattle.promise.proofs.Ranks.{rank}
-use Rattle.promise.proofs.Rows.{Fine, row-fine, fits-at}
+use Rattle.promise.proofs.Rows.{Fine, row-fine, fits-at, row-is-all}
 use Rattle.promise.proofs.Runs.{Drawn, Booted, Runs, waking, at-root, at-page, at-cursor, at-rooted, at-placed, at-released, at-comes, at-ends, at-later, at-saved, at-told, at-noted, at-closed, at-done, small, booted-more}
 use Rattle.promise.proofs.Turns.{Good, Stepped, keeps, recalls, froms, releases, rests-now, tells-row, asks-more}
 use Rattle.promise.proofs.Views.{mem, does, start-mem, step-wakes, step-placed, step-released, step-rooted, step-told, step-done, step-closed, step-takes, step-over, step-ends-open, step-ends-shut, step-noted, tell-cell, tell-close, cell-found, cells-none, first-cell, step-filled, step-saved, step-saved-root, step-root-none, step-root-some, step-page, step-page-last, step-cursor}
@@ -415,3 +416,106 @@ module _ (gs : Gauges) (fine : gauges-fine gs ≡ true) (w : World) (i : ℕ) (l
               sums-length = lengths .0; counts-length = lengths .1; newer = omega arith; room = d .high })
             refl)
         (omega arith)
+
+  module _ (known : core gs ≡ true) where
+    -- a row that has readings has all there are
+    all-here : 0 < length rs → all-of gs ≡ rs
+    all-here some = row-is-all gs i known some
+
+    -- A READING COMES
+    hears : (ix bg hr ps st ch cc gone : ℕ) (ds : Drawers) (ss cs : List ℕ) → Booted rs ts gone ds bg hr ps st ch cc ss cs → ps < length rs → ps < gone + 4096 →
+        Is (mem 6 ix bg hr ps st ch cc ss cs) (comes (getD rs ps no-reading .time) (getD rs ps no-reading .key) (getD rs ps no-reading .value)) (suc ps) gone ds →
+        Next (mem 6 ix bg hr ps st ch cc ss cs) (comes (getD rs ps no-reading .time) (getD rs ps no-reading .key) (getD rs ps no-reading .value))
+    hears ix zero hr ps st ch cc gone ds ss cs b in-row room is =
+        let f = row-fine gs i fine in
+        let s : Shut rs ts ps ss cs = b .holds in
+        let fresh : (j : ℕ) → j < ps → j < length rs → hour-at rs j ≡ hour-at rs ps → ⊥ = λ j jp jl e. omega (arith, s .apart j ps jp (omega arith) in-row) in
+        let t : Tables-of rs ps (hour-at rs ps) ss cs = subst (λ x. Tables-of rs ps (hour-at rs ps) x cs) (sym (s .sums))
+            (subst (λ x. Tables-of rs ps (hour-at rs ps) zero-table x) (sym (s .counts)) (tables-zeros rs ps (hour-at rs ps) fresh)) in
+        let ok = entry-fits rs ps (hour-at rs ps) ss cs (f .readings) (f .few) in-row t refl in
+        takes ix 0 hr ps st ch cc ss cs gone ds b in-row room is (inl refl) ok
+        (subst (λ e. Open rs ts (hour-at rs ps) (ps + 1) (with-sum ss e) (with-count cs e)) ok (open-first rs ts f ps ss cs in-row s))
+    hears ix (suc zero) hr ps st ch cc gone ds ss cs b in-row room is =
+        let f = row-fine gs i fine in
+        let o : Open rs ts hr ps ss cs = b .holds in
+        let fit = fits-at rs ps (f .readings) in-row in
+        ⊎-elim
+        (λ (same : hour-at rs ps ≡ hr).
+            let ok = entry-fits rs ps hr ss cs (f .readings) (f .few) in-row (o .tables) same in
+            takes ix 1 hr ps st ch cc ss cs gone ds b in-row room is (inr same) ok
+            (subst (λ e. Open rs ts (hour-at rs ps) (ps + 1) (with-sum ss e) (with-count cs e)) ok
+            (subst (λ c. Open rs ts c (ps + 1) (with-sum ss (entry-of ss cs (next-reading rs ps))) (with-count cs (entry-of ss cs (next-reading rs ps)))) (sym same)
+            (open-next rs ts f ps ss cs in-row hr o same))))
+        (λ (other : hour-at rs ps ≡ hr → ⊥).
+            tells-on 6 ix hr ps st ch cc ss cs _ (suc ps) gone ds is b (over-other rs ts f hr ps ss cs o in-row other)
+            (step-over ix 1 hr ps st ch cc ss cs (b .sums-length) (b .counts-length) _ _ _ (fit .time) (fit .key) (fit .value) (λ z. omega arith) other) (all-here (omega arith))
+            (λ k le low. omega arith) (omega arith))
+        (cases-eq (hour-at rs ps) hr)
+    hears ix (suc (suc n)) hr ps st ch cc gone ds ss cs b in-row room is = absurd (omega (arith, at-most-one ix (suc (suc n)) hr ps st ch cc ss cs (b .flag)))
+
+    -- THERE ARE NO MORE
+    finishes : (ix bg hr ps st ch cc gone : ℕ) (ds : Drawers) (ss cs : List ℕ) → Booted rs ts gone ds bg hr ps st ch cc ss cs → (bg ≡ 0 → gone ≡ ps) → length rs ≤ ps →
+        Is (mem 6 ix bg hr ps st ch cc ss cs) ends ps gone ds → Next (mem 6 ix bg hr ps st ch cc ss cs) ends
+    finishes ix zero hr ps st ch cc gone ds ss cs b fresh end is =
+        let e : gone ≡ ps = fresh refl in
+        rests-now gs w i lt g _ ends ps gone ds is (mem 12 ix 0 hr ps st ch cc ss cs) (step-ends-shut ix 0 hr ps st ch cc ss cs (b .sums-length) (b .counts-length) refl)
+        (subst (λ n. Runs rs ts (mem 12 ix 0 hr ps st ch cc ss cs) [] ps n ds) (sym e)
+            (at-done [] ix hr ps st ch cc ps ds ss cs (subst (λ n. Booted rs ts n ds 0 hr ps st ch cc ss cs) e b) end (inl refl)))
+        (omega arith)
+    finishes ix (suc zero) hr ps st ch cc gone ds ss cs b fresh end is =
+        let o : Open rs ts hr ps ss cs = b .holds in
+        tells-on 6 ix hr ps st ch cc ss cs ends ps gone ds is b (over-end rs ts (row-fine gs i fine) hr ps ss cs o end)
+        (step-ends-open ix 1 hr ps st ch cc ss cs (b .sums-length) (b .counts-length) (λ z. omega arith)) (all-here (omega (arith, o .some, o .within)))
+        (λ k le low. omega arith) (omega arith)
+    finishes ix (suc (suc n)) hr ps st ch cc gone ds ss cs b fresh end is = absurd (omega (arith, at-most-one ix (suc (suc n)) hr ps st ch cc ss cs (b .flag)))
+
+    -- THE ROLL IS FULL
+    fills : (ix bg hr ps st ch cc gone : ℕ) (ds : Drawers) (ss cs : List ℕ) → Booted rs ts gone ds bg hr ps st ch cc ss cs → (bg ≡ 0 → gone ≡ ps) → gone + 4096 ≤ ps →
+        Is (mem 6 ix bg hr ps st ch cc ss cs) later ps gone ds → Next (mem 6 ix bg hr ps st ch cc ss cs) later
+    fills ix zero hr ps st ch cc gone ds ss cs b fresh full is = absurd (omega (arith, fresh refl))
+    fills ix (suc zero) hr ps st ch cc gone ds ss cs b fresh full is =
+        saves hr ps st ch cc gone ds ss cs b 6 ix 0 later is (lit< tt) (λ p d no-page. absurd (omega arith))
+        (λ d e. step-filled ix 1 hr ps st ch cc ss cs (b .sums-length) (b .counts-length) d (λ z. omega arith) (shadow-drawer hr ps st ch cc gone ds ss cs b 0 d e)) (omega arith)
+    fills ix (suc (suc n)) hr ps st ch cc gone ds ss cs b fresh full is = absurd (omega (arith, at-most-one ix (suc (suc n)) hr ps st ch cc ss cs (b .flag)))
+
+    -- THE NEXT CELL, AFTER A CURSOR
+    tells-next : (ix hr ps st cc at gone : ℕ) (ds : Drawers) (ss cs : List ℕ) → Booted rs ts gone ds 1 hr ps st hr cc ss cs → Over rs hr ps →
+        Is (mem 10 ix 1 hr ps st hr cc ss cs) next at gone ds → Next (mem 10 ix 1 hr ps st hr cc ss cs) next
+    tells-next ix hr ps st cc at gone ds ss cs b over is =
+        let o : Open rs ts hr ps ss cs = b .holds in
+        tells-on 10 ix hr ps st hr cc ss cs next at gone ds is b over (step-noted ix 1 hr ps st hr cc ss cs (b .sums-length) (b .counts-length))
+        (all-here (omega (arith, o .some, o .within)))
+        (λ k le low. let first : cc ≤ k = subst (λ n. n ≤ k) (cond-true _ _ _ (eq-eqb hr hr refl)) le in omega arith) (omega arith)
+
+    -- ALL IS TOLD: it rests
+    rests-on : (evs : List Event) (ix hr ps st ch cc at : ℕ) (ds : Drawers) (ss cs : List ℕ) → Booted rs ts ps ds 0 hr ps st ch cc ss cs → length rs ≤ ps → next ∷ [] ≡ evs →
+        machine-at (w .machines) i ≡ machine (mem 12 ix 0 hr ps st ch cc ss cs) evs at ps ds →
+        Stepped gs (one-step own gs w i evs) i (rank (length rs) (mem 12 ix 0 hr ps st ch cc ss cs) evs)
+    rests-on evs ix hr ps st ch cc at ds ss cs b end e is =
+        let m = mem 12 ix 0 hr ps st ch cc ss cs in
+        subst (λ l. Stepped gs (one-step own gs w i l) i (rank (length rs) (mem 12 ix 0 hr ps st ch cc ss cs) l)) e
+        (rests-now gs w i lt g m next at ps ds (is ∙ ap (λ l. machine m l at ps ds) (sym e)) m (step-done ix 0 hr ps st ch cc ss cs (b .sums-length) (b .counts-length))
+            (at-done [] ix hr ps st ch cc at ds ss cs b end (inl refl)) (omega arith))
+
+    none-and-some : {A B : Type 0} (x : A) (xs : List A) → x ∷ xs ≡ [] → B
+    none-and-some x xs e = let z : _≡_ {A = ℕ} 0 1 = cc in absurd (omega arith)
+
+    -- every step
+    pub steps-well : (m : List ℕ) (ev : Event) (evs : List Event) (at gone : ℕ) (ds : Drawers) → machine-at (w .machines) i ≡ machine m (ev ∷ evs) at gone ds → Runs rs ts m (ev ∷ evs) at gone ds →
+        Stepped gs (one-step own gs w i (ev ∷ evs)) i (rank (length rs) m (ev ∷ evs))
+    steps-well _ _ _ _ _ _ is (waking k gone ds d) = wakes-up k gone ds is d
+    steps-well _ _ _ _ _ _ is (at-root gone ds d) = boots gone ds d is
+    steps-well _ _ _ _ _ _ is (at-page p e gone ds ss cs d some at back) = reads-page gone ds d p e ss cs some at back is
+    steps-well _ _ _ _ _ _ is (at-cursor ix bg gone ds d f h) = reads-cursor gone ds d ix bg is f h
+    steps-well _ _ _ _ _ _ is (at-rooted ix bg hr ps st ch cc at gone ds ss cs b e) = after-root ix bg hr ps st ch cc ss cs at gone ds is b e
+    steps-well _ _ _ _ _ _ is (at-placed ix bg hr ps st ch cc gone ds ss cs b e) = after-place ix bg hr ps st ch cc ss cs gone ds is b e
+    steps-well _ _ _ _ _ _ is (at-released ix bg hr ps st ch cc ds ss cs b e) = after-release ix bg hr ps st ch cc ss cs ds is b e
+    steps-well _ _ _ _ _ _ is (at-comes ix bg hr ps st ch cc gone ds ss cs b f in-row room) = hears ix bg hr ps st ch cc gone ds ss cs b in-row room is
+    steps-well _ _ _ _ _ _ is (at-ends ix bg hr ps st ch cc gone ds ss cs b f end) = finishes ix bg hr ps st ch cc gone ds ss cs b f end is
+    steps-well _ _ _ _ _ _ is (at-later ix bg hr ps st ch cc gone ds ss cs b f full) = fills ix bg hr ps st ch cc gone ds ss cs b f full is
+    steps-well _ _ _ _ _ _ is (at-saved p hr ps st ch cc gone ds ss cs b low kept) = saves-next hr ps st ch cc gone ds ss cs b p is low kept
+    steps-well _ _ _ _ _ _ is (at-told ix hr ps st cc at gone ds ss cs b over) = notes ix hr ps st cc at gone ds ss cs is b over
+    steps-well _ _ _ _ _ _ is (at-noted ix hr ps st cc at gone ds ss cs b over) = tells-next ix hr ps st cc at gone ds ss cs b over is
+    steps-well _ _ _ _ _ _ is (at-closed ix hr ps st at gone ds ss cs b over) = clears ix hr ps st at gone ds ss cs is b over
+    steps-well _ ev evs _ _ _ is (at-done _ ix hr ps st ch cc at ds ss cs b end which) =
+        ⊎-elim (λ none. none-and-some ev evs none) (λ e. rests-on (ev ∷ evs) ix hr ps st ch cc at ds ss cs b end (sym e) is) which
