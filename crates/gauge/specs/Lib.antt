@@ -1,3 +1,4 @@
 pub mod Memory
 pub mod Deeds
 pub mod Gauge
+pub mod Phases
