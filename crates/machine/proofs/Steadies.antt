@@ -4,7 +4,7 @@ use mathlib.Core.Bool.{Bool, true, false, cond, _&&_}
 use mathlib.Core.List.{List, [], _∷_, _++_}
 use Prim.Native.Nat.{ℕ, zero, suc, _+_, _*_, _-_, _/_, _^_, _≤_, _<_}
 use native.Mathlib.Omega.{arith}
-use lib.Dec.{eqb, ltb, lit<, lit≤}
+use lib.Dec.{eqb, ltb, leb, lit<}
 use lib.ListN.{length, getD, set, take, drop, replicate, length-append, length-take}
 use Rattle.std.specs.declared.option.Option.{Option}
 use Rattle.std.specs.declared.option.Option.the-variants.{Some, None}
@@ -20,6 +20,7 @@ use Rattle.sums.specs.Tables.{entry-at, entry-with}
 use Rattle.sums.specs.Written.{written}
 use Rattle.sums.specs.declared.tables.Entry.{Entry}
 use Rattle.sums.specs.declared.tables.TableError.{TableError}
+use Rattle.sums.specs.declared.tables.TableError.the-variants.{TableLength}
 use Rattle.sums.proofs.Columns.{length-sums, length-counts}
 use Rattle.sums.proofs.Digits.{every-append}
 use Rattle.sums.proofs.Overwrites.{length-written}
@@ -33,8 +34,8 @@ use Rattle.gauge.specs.Memory.{cells, sums-at, counts-at, phase-in, index-in, b
 use Rattle.gauge.specs.Deeds.{Done}
 use Rattle.gauge.specs.Gauge.{next-cell, cell-told, hour-closed, tell-next, cleared, hour-ended, accumulated, heard, ended, page-saved-in, page-saved, shadow-in, set-named, root-saved, filled, save-next, placed-at, went-on}
 use Rattle.machine.specs.Boot.{woken, root-read, page-asked-in, root-recalled, page-read, page-fits, page-recalled, cursor-recalled, recalled}
-use Rattle.machine.specs.Machine.{reacts, machine-step}
-use Rattle.machine.specs.Run.{Event, wakes, comes, later, ends, letter, slot, next, Step, Steady, all-small}
+use Rattle.machine.specs.Machine.{reacts, as-step, machine-step}
+use Rattle.machine.specs.Run.{Event, wakes, comes, later, ends, letter, slot, next, Step, rests, Steady, all-small}
 use Rattle.machine.specs.Entry.{own}
 
 abbrev limit : ℕ
@@ -76,6 +77,29 @@ at [] i a = lit< tt
 at (x ∷ m) zero a = ltb-true _ _ (and-parts (ltb x limit) _ a .0)
 at (x ∷ m) (suc i) a = at m i (and-parts (ltb x limit) _ a .1)
 
+-- an entry of the tables, where there is one, has small numbers
+Small-entry : Result Entry TableError → Type 0
+Small-entry (Ok e) = (e .sum < limit) × (e .count < limit)
+Small-entry (Err x) = Unit {0}
+
+small-entry-at : (ss cs : List ℕ) (c v : ℕ) → Small-entry (entry-at ss cs c v)
+unfolding Small-entry
+small-entry-at ss cs c v =
+    cond-both (ltb (getD ss c 0 + v) limit) _ _ Small-entry
+    (λ e. cond-both (ltb (getD cs c 0 + 1) 4294967296) _ _ Small-entry
+    (λ f. let l : getD cs c 0 + 1 < 4294967296 = ltb-true _ _ f in (ltb-true _ _ e, omega arith)) (λ f. tt))
+    (λ e. tt)
+
+small-entry : (ss cs : List ℕ) (k v : ℕ) → Small-entry (entry-with ss cs k v)
+unfolding Small-entry
+small-entry ss cs k v =
+    cond-both (ltb k places) _ _ Small-entry (λ e. cond-both (leb places (length ss) && leb places (length cs)) (entry-at ss cs (cell-of k) v) (Err TableLength) Small-entry (λ f. small-entry-at ss cs (cell-of k) v) (λ f. tt)) (λ e. tt)
+
+set-small : (s : PageSet) → set-number s < limit
+set-small page-set.None = lit< tt
+set-small First = lit< tt
+set-small Second = lit< tt
+
 -- KEPT: a memory of the same length, small where the first is
 Kept : (m m₁ : List ℕ) → Type 0
 Kept m m₁ = (length m₁ ≡ length m) × (all-small m ≡ true → all-small m₁ ≡ true)
@@ -84,9 +108,9 @@ same : (m : List ℕ) → Kept m m
 unfolding Kept
 same m = (refl, λ a. a)
 
-either : {D : Type 0} (f : D → List ℕ) (m : List ℕ) (b : Bool) (s t : D) → (b ≡ true → Kept m (f s)) → (b ≡ false → Kept m (f t)) → Kept m (f (cond b s t))
-either f m true s t p q = p refl
-either f m false s t p q = q refl
+either : (m : List ℕ) (b : Bool) (s t : Done) → (b ≡ true → Kept m (s .memory)) → (b ≡ false → Kept m (t .memory)) → Kept m (cond b s t .memory)
+either m true s t p q = p refl
+either m false s t p q = q refl
 
 module _ (m : List ℕ) where
   -- one write more
@@ -110,7 +134,7 @@ module _ (m : List ℕ) where
     where
       zeros : Kept m (take sums-at m ++ replicate (length m - sums-at) 0)
       zeros = (
-        length-append (take sums-at m) (replicate (length m - sums-at) 0) ∙ omega (arith, length-take sums-at m, length-replicate (length m - sums-at) 0),
+        length-append (take sums-at m) (replicate (length m - sums-at) 0) ∙ omega (arith, length-take sums-at m, length-replicate {A = ℕ} (length m - sums-at) 0),
         λ a. every-append _ (take sums-at m) (replicate (length m - sums-at) 0) (every-take _ sums-at m a) (every-replicate _ (length m - sums-at) 0 refl),
       )
 
@@ -124,34 +148,17 @@ module _ (m : List ℕ) where
 
   hour-closed-kept : Kept m (hour-closed m .memory)
   hour-closed-kept =
-      either (λ d. d .memory) m (ltb (hour-in m + 1) limit) _ _
+      either m (ltb (hour-in m + 1) limit) _ _
       (λ e. wrote _ 0 closed (wrote _ 7 0 (wrote m 6 (hour-in m + 1) (same m) (λ _. ltb-true _ _ e)) (λ _. lit< tt)) (λ _. lit< tt)) (λ e. same m)
 
   tell-next-kept : Kept m (tell-next m .memory)
   tell-next-kept =
-      either (λ d. d .memory) m (ltb (next-cell m) places) _ _ (λ e. cell-told-kept (next-cell m) (ltb-true _ _ e)) (λ e. hour-closed-kept)
-
-  Small-entry : Result Entry TableError → Type 0
-  Small-entry (Ok e) = (e .sum < limit) × (e .count < limit)
-  Small-entry (Err x) = Unit {0}
-
-  small-entry-at : (ss cs : List ℕ) (c v : ℕ) → Small-entry (entry-at ss cs c v)
-  unfolding Small-entry
-  small-entry-at ss cs c v =
-      cond-both (ltb (getD ss c 0 + v) limit) _ _ Small-entry
-      (λ e. cond-both (ltb (getD cs c 0 + 1) 4294967296) _ _ Small-entry
-      (λ f. let l : getD cs c 0 + 1 < 4294967296 = ltb-true _ _ f in (ltb-true _ _ e, omega arith)) (λ f. tt))
-      (λ e. tt)
-
-  small-entry : (ss cs : List ℕ) (k v : ℕ) → Small-entry (entry-with ss cs k v)
-  unfolding Small-entry
-  small-entry ss cs k v =
-      cond-both (ltb k places) _ _ Small-entry (λ e. cond-both _ _ _ Small-entry (λ f. small-entry-at ss cs (cell-of k) v) (λ f. tt)) (λ e. tt)
+      either m (ltb (next-cell m) places) _ _ (λ e. cell-told-kept (next-cell m) (ltb-true _ _ e)) (λ e. hour-closed-kept)
 
   accumulated-kept : (h : ℕ) (r : Result Entry TableError) → h < limit → Small-entry r → Kept m (accumulated m h r .memory)
   unfolding Small-entry
   accumulated-kept h (Ok e) lt s =
-      either (λ d. d .memory) m (ltb (pos-in m + 1) limit) _ _
+      either m (ltb (pos-in m + 1) limit) _ _
       (λ p. wrote _ 4 (pos-in m + 1)
       (wrote _ 3 h (wrote _ 2 1 (wrote _ (counts-at + e .cell) (e .count) (wrote m (sums-at + e .cell) (e .sum) (same m) (λ _. s .0)) (λ _. s .1)) (λ _. lit< tt)) (λ _. lt))
       (λ _. ltb-true _ _ p))
@@ -160,15 +167,15 @@ module _ (m : List ℕ) where
 
   heard-kept : (t k v : ℕ) → Kept m (heard m t k v .memory)
   heard-kept t k v =
-      either (λ d. d .memory) m (ltb t 4611686018427387904 && (ltb k places && ltb v 4294967296)) _ _
+      either m (ltb t 4611686018427387904 && (ltb k places && ltb v 4294967296)) _ _
       (λ e.
       let lt : t < 4611686018427387904 = ltb-true _ _ (and-parts _ _ e .0) in
-      either (λ d. d .memory) m (or (eqb (begun-in m) 0) (eqb (t / 100) (hour-in m))) _ _
+      either m (or (eqb (begun-in m) 0) (eqb (t / 100) (hour-in m))) _ _
       (λ f. accumulated-kept (t / 100) (entry-with (sums-in m) (counts-in m) k v) (omega arith) (small-entry (sums-in m) (counts-in m) k v)) (λ f. tell-next-kept))
       (λ e. same m)
 
   ended-kept : Kept m (ended m .memory)
-  ended-kept = either (λ d. d .memory) m (eqb (begun-in m) 0) _ _ (λ e. wrote m 0 12 (same m) (λ _. lit< tt)) (λ e. tell-next-kept)
+  ended-kept = either m (eqb (begun-in m) 0) _ _ (λ e. wrote m 0 12 (same m) (λ _. lit< tt)) (λ e. tell-next-kept)
 
   page-saved-kept : (p : ℕ) → p < pages → Kept m (page-saved m p .memory)
   page-saved-kept p lt = go (page-drawer (shadow-in m) p)
@@ -177,20 +184,15 @@ module _ (m : List ℕ) where
       go (Some d) = wrote _ 1 p (wrote m 0 saved (same m) (λ _. lit< tt)) (λ _. omega arith)
       go None = same m
 
-  set-small : (s : PageSet) → set-number s < limit
-  set-small page-set.None = lit< tt
-  set-small First = lit< tt
-  set-small Second = lit< tt
-
   root-saved-kept : Kept m (root-saved m .memory)
   root-saved-kept = wrote _ 0 rooted (wrote m 5 (set-number (shadow-in m)) (same m) (λ _. set-small (shadow-in m))) (λ _. lit< tt)
 
   filled-kept : Kept m (filled m .memory)
-  filled-kept = either (λ d. d .memory) m (eqb (begun-in m) 0) _ _ (λ e. same m) (λ e. page-saved-kept 0 (lit< tt))
+  filled-kept = either m (eqb (begun-in m) 0) _ _ (λ e. same m) (λ e. page-saved-kept 0 (lit< tt))
 
   save-next-kept : Kept m (save-next m .memory)
   save-next-kept =
-      either (λ d. d .memory) m (ltb (index-in m + 1) pages) _ _ (λ e. page-saved-kept (index-in m + 1) (ltb-true _ _ e)) (λ e. root-saved-kept)
+      either m (ltb (index-in m + 1) pages) _ _ (λ e. page-saved-kept (index-in m + 1) (ltb-true _ _ e)) (λ e. root-saved-kept)
 
   phase-set : (p : ℕ) → p < limit → Kept m (set m 0 p)
   phase-set p lt = wrote m 0 p (same m) (λ _. lt)
@@ -205,7 +207,7 @@ module _ (m : List ℕ) where
       (phase noted _ _ tell-next-kept (phase closed _ _ (wrote _ 0 rooted cleared-kept (λ _. lit< tt)) (same m)))))))
     where
       phase : (p : ℕ) (s t : Done) → Kept m (s .memory) → Kept m (t .memory) → Kept m (cond (eqb (phase-in m) p) s t .memory)
-      phase p s t k l = either (λ d. d .memory) m (eqb (phase-in m) p) s t (λ _. k) (λ _. l)
+      phase p s t k l = either m (eqb (phase-in m) p) s t (λ _. k) (λ _. l)
 
   -- BOOT
   page-asked-kept : (m₁ : List ℕ) (p : ℕ) (d : Option ℕ) → Kept m m₁ → p < limit → Kept m (page-asked-in m₁ p d .memory)
@@ -221,7 +223,7 @@ module _ (m : List ℕ) where
 
   root-recalled-kept : (bs : List ℕ) → Kept m (root-recalled m bs .memory)
   root-recalled-kept bs =
-      either (λ d. d .memory) m (ltb (root-of bs .hour) limit && ltb (root-of bs .pos) limit) _ _
+      either m (ltb (root-of bs .hour) limit && ltb (root-of bs .pos) limit) _ _
       (λ e.
       let p = and-parts _ _ e in
       page-asked-kept _ 0 (page-drawer (root-of bs .set) 0) (root-read-kept (root-of bs) (ltb-true _ _ (p .0)) (ltb-true _ _ (p .1))) (lit< tt))
@@ -239,7 +241,7 @@ module _ (m : List ℕ) where
 
   page-recalled-kept : (bs : List ℕ) → length m ≡ cells → Kept m (page-recalled m bs .memory)
   page-recalled-kept bs len =
-      either (λ d. d .memory) m (ltb (index-in m) pages && page-fits bs) _ _
+      either m (ltb (index-in m) pages && page-fits bs) _ _
       (λ e.
       let p = and-parts (ltb (index-in m) pages) (page-fits bs) e in
       let lt : index-in m < pages = ltb-true _ _ (p .0) in
@@ -248,7 +250,7 @@ module _ (m : List ℕ) where
 
   cursor-recalled-kept : (bs : List ℕ) → Kept m (cursor-recalled m bs .memory)
   cursor-recalled-kept bs =
-      either (λ d. d .memory) m (ltb (cursor-of bs .hour) limit && ltb (cursor-of bs .cell) limit) _ _
+      either m (ltb (cursor-of bs .hour) limit && ltb (cursor-of bs .cell) limit) _ _
       (λ e.
       let p = and-parts _ _ e in
       wrote _ 0 placed (wrote _ 7 (cursor-of bs .cell) (wrote m 6 (cursor-of bs .hour) (same m) (λ _. ltb-true _ _ (p .0))) (λ _. ltb-true _ _ (p .1))) (λ _. lit< tt))
@@ -256,13 +258,13 @@ module _ (m : List ℕ) where
 
   recalled-kept : (bs : List ℕ) → length m ≡ cells → Kept m (recalled m bs .memory)
   recalled-kept bs len =
-      either (λ d. d .memory) m (eqb (phase-in m) asks-root) _ _ (λ _. root-recalled-kept bs)
-      (λ _. either (λ d. d .memory) m (eqb (phase-in m) asks-page) _ _ (λ _. page-recalled-kept bs len)
-      (λ _. either (λ d. d .memory) m (eqb (phase-in m) asks-cursor) _ _ (λ _. cursor-recalled-kept bs) (λ _. same m)))
+      either m (eqb (phase-in m) asks-root) _ _ (λ _. root-recalled-kept bs)
+      (λ _. either m (eqb (phase-in m) asks-page) _ _ (λ _. page-recalled-kept bs len)
+      (λ _. either m (eqb (phase-in m) asks-cursor) _ _ (λ _. cursor-recalled-kept bs) (λ _. same m)))
 
   -- THE MACHINE
   while-reading : (d e : Done) → Kept m (d .memory) → Kept m (e .memory) → Kept m (cond (eqb (phase-in m) reading) d e .memory)
-  while-reading d e k l = either (λ x. x .memory) m (eqb (phase-in m) reading) d e (λ _. k) (λ _. l)
+  while-reading d e k l = either m (eqb (phase-in m) reading) d e (λ _. k) (λ _. l)
 
   reacts-kept : (ev : Event) → length m ≡ cells → Kept m (reacts m ev .memory)
   reacts-kept (wakes i) len = woken-kept
@@ -275,7 +277,11 @@ module _ (m : List ℕ) where
 
   step-kept : (ev : Event) → Kept m (machine-step m ev .memory)
   unfolding machine-step
-  step-kept ev = either (λ (s : Step). s .memory) m (eqb (length m) cells) _ _ (λ e. reacts-kept ev (eqb-true _ _ e)) (λ e. same m)
+  step-kept ev = go (eqb (length m) cells) refl
+    where
+      go : (b : Bool) → eqb (length m) cells ≡ b → Kept m (cond b (as-step (reacts m ev)) (record { memory = m; act = rests }) .memory)
+      go true e = reacts-kept ev (eqb-true _ _ e)
+      go false e = same m
 
 pub steady : Steady own
 unfolding Steady own Kept
