@@ -4,3 +4,4 @@ pub mod Tells
 pub mod Dids
 pub mod Cells
 pub mod Pagewise
+pub mod Entries
