@@ -2,3 +2,5 @@ pub mod Memory
 pub mod Deeds
 pub mod Gauge
 pub mod Phases
+pub mod Kept
+pub mod Scan
