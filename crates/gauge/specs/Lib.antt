@@ -4,3 +4,4 @@ pub mod Gauge
 pub mod Phases
 pub mod Kept
 pub mod Scan
+pub mod Readings

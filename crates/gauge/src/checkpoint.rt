@@ -1,4 +1,5 @@
-// A checkpoint: the eight pages into the set that the root record does not name, then the root record, which commits them.
+// A checkpoint: the eight pages into the set that the root record does not name, then the root record, which commits them. An hour that is told ends with a root
+// record that names no pages.
 ghost use mathlib.Core.Path.{_≡_};
 ghost use Prim.Native.Nat.{_≤_, _<_};
 ghost use lib.ListN.{length};
@@ -70,7 +71,11 @@ fn save_root(memory: &mut [u64], out: &mut [u8]) -> Act
     requires { ⌜ 4096 ≤ length (now out) ⌝ }
     ensures { λ r. ⌜ Did (root-saved (now (memory .entry))) r (now (memory .exit)) (now (out .entry)) (now (out .exit)) ⌝ }
 {
-    let root = Root { set: shadow(memory), hour: memory[HOUR], pos: memory[POS] };
+    let root = Root {
+        set: shadow(memory),
+        hour: memory[HOUR],
+        pos: memory[POS],
+    };
     memory[SET] = root.set.number();
     memory[PHASE] = Phase::Rooted.number();
     keep_root(root, out)
@@ -93,7 +98,11 @@ pub(crate) fn end_hour(memory: &mut [u64], out: &mut [u8]) -> Act
     requires { ⌜ 4096 ≤ length (now out) ⌝ }
     ensures { λ r. ⌜ Did (hour-ended (now (memory .entry))) r (now (memory .exit)) (now (out .entry)) (now (out .exit)) ⌝ }
 {
-    let root = Root { set: PageSet::None, hour: 0, pos: memory[POS] };
+    let root = Root {
+        set: PageSet::None,
+        hour: 0,
+        pos: memory[POS],
+    };
     memory[SUMS..CELLS].fill(0);
     memory[BEGUN] = 0;
     memory[SET] = root.set.number();

@@ -1,4 +1,4 @@
-// Told to go on, the machine does what comes after what it did last.
+// What comes after what the machine did last.
 ghost use mathlib.Core.Path.{_≡_};
 ghost use Prim.Native.Nat.{_≤_};
 ghost use lib.ListN.{length};
@@ -16,6 +16,7 @@ use crate::row::release;
 use crate::tell::note_cursor;
 use crate::tell::tell_next;
 
+// Told to go on, where nothing came. A phase that waits for something else rests.
 pub fn go_on(memory: &mut [u64], out: &mut [u8]) -> Act
     requires { ⌜ length (now memory) ≡ cells ⌝ }
     requires { ⌜ 4096 ≤ length (now out) ⌝ }
@@ -32,6 +33,11 @@ pub fn go_on(memory: &mut [u64], out: &mut [u8]) -> Act
         Phase::Told => note_cursor(memory, out),
         Phase::Noted => tell_next(memory, out),
         Phase::Closed => end_hour(memory, out),
-        Phase::Asleep | Phase::AsksRoot | Phase::AsksPage | Phase::AsksCursor | Phase::Reading | Phase::Done => Act::Rests,
+        Phase::Asleep
+        | Phase::AsksRoot
+        | Phase::AsksPage
+        | Phase::AsksCursor
+        | Phase::Reading
+        | Phase::Done => Act::Rests,
     }
 }

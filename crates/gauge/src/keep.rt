@@ -1,4 +1,4 @@
-// Records and pages that are kept: their bytes over the front of the buffer, and the act.
+// Records and pages that are kept: their bytes over the front of the buffer, which has room for each of them, and the act.
 ghost use mathlib.Core.Path.{_≡_};
 ghost use Prim.Native.Nat.{_≤_, _<_};
 ghost use lib.ListN.{length};
@@ -20,7 +20,9 @@ use sums::cells::SLOTS;
 use sums::pages::PAGE_BYTES;
 use sums::pages::encode_page;
 
+// How long a root record is.
 const ROOT_BYTES: u16 = 24;
+// How long a cursor is.
 const CURSOR_BYTES: u16 = 16;
 
 pub(crate) fn keep_root(root: Root, out: &mut [u8]) -> Act
@@ -49,6 +51,10 @@ pub(crate) fn keep_page(memory: &[u64], page: u64, drawer: u8, out: &mut [u8]) -
     let slots = SLOTS as usize;
     let sums = SUMS + slots * page as usize;
     let counts = COUNTS + slots * page as usize;
-    encode_page(&memory[sums..sums + slots], &memory[counts..counts + slots], out).unwrap();
+    encode_page(
+        &memory[sums..sums + slots],
+        &memory[counts..counts + slots],
+        out,
+    ).unwrap();
     Act::Keep(drawer, PAGE_BYTES as u16)
 }

@@ -90,7 +90,10 @@ pub(crate) fn note_cursor(memory: &mut [u64], out: &mut [u8]) -> Act
     requires { ⌜ 4096 ≤ length (now out) ⌝ }
     ensures { λ r. ⌜ Did (cursor-noted (now (memory .entry))) r (now (memory .exit)) (now (out .entry)) (now (out .exit)) ⌝ }
 {
-    let cursor = Cursor { hour: memory[CURSOR_HOUR], cell: memory[CURSOR_CELL] };
+    let cursor = Cursor {
+        hour: memory[CURSOR_HOUR],
+        cell: memory[CURSOR_CELL],
+    };
     memory[PHASE] = Phase::Noted.number();
     keep_cursor(cursor, out)
 }

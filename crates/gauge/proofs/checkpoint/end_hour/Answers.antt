@@ -7,7 +7,9 @@ use Rattle.gauge.proofs.checkpoint.end_hour.Needs as need
 
 pub returns : need.returns
 returns c =
-    let m = c .args .memory .now in
-    (ap (λ l. set (set (set l 2 0) 5 (c .number .result)) 0 (c .number-2 .result)) (tables-filled m (omega arith) _ 0 (c .fill .ensures .after (λ y e. e)))
-    ∙ search needs,
-    search needs, search needs)
+    let m = c .args .memory .now in (
+      ap (λ l. set (set (set l 2 0) 5 (c .number .result)) 0 (c .number-2 .result)) (tables-filled m (omega arith) _ 0 (c .fill .ensures .after (λ y e. e)))
+          ∙ search needs,
+      search needs,
+      search needs,
+    )
