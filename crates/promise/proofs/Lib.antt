@@ -13,3 +13,4 @@ pub mod Start
 pub mod Others
 pub mod Calm
 pub mod Laws
+pub mod Core

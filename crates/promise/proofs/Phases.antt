@@ -49,6 +49,10 @@ zeros : length zero-table ≡ places
 unfolding zero-table
 zeros = refl
 
+pub at-most-one : (bg : ℕ) → (bg ≡ 0) ⊎ (bg ≡ 1) → bg ≤ 1
+at-most-one bg (inl e) = omega arith
+at-most-one bg (inr e) = omega arith
+
 module _ (gs : Gauges) (fine : gauges-fine gs ≡ true) (w : World) (i : ℕ) (lt : i < 8) (g : Good gs w) where
   abbrev rs : List Reading
   rs = nth-row gs i
@@ -70,14 +74,10 @@ module _ (gs : Gauges) (fine : gauges-fine gs ≡ true) (w : World) (i : ℕ) (l
 
   -- BETWEEN A ROOT RECORD AND A READING
   module _ (ix bg hr ps st ch cc : ℕ) (ss cs : List ℕ) where
-    at-most-one : (bg ≡ 0) ⊎ (bg ≡ 1) → bg ≤ 1
-    at-most-one (inl e) = omega arith
-    at-most-one (inr e) = omega arith
-
     after-root : (at gone : ℕ) (ds : Drawers) → Is (mem 8 ix bg hr ps st ch cc ss cs) next at gone ds → Booted rs ts gone ds bg hr ps st ch cc ss cs → kept-of ds .root .pos ≡ ps →
         Next (mem 8 ix bg hr ps st ch cc ss cs) next
     after-root at gone ds is b e =
-        let few = at-most-one (b .flag) in
+        let few = at-most-one bg (b .flag) in
         let low : gone ≤ ps = subst (λ n. gone ≤ n) e (b .drawn .low) in
         froms gs w i lt g _ next at gone ds is (mem 4 ix bg hr ps st ch cc ss cs) ps (step-rooted ix bg hr ps st ch cc ss cs (b .sums-length) (b .counts-length))
         low (b .room) (at-placed ix bg hr ps st ch cc gone ds ss cs b e) (omega arith)
@@ -85,7 +85,7 @@ module _ (gs : Gauges) (fine : gauges-fine gs ≡ true) (w : World) (i : ℕ) (l
     after-place : (gone : ℕ) (ds : Drawers) → Is (mem 4 ix bg hr ps st ch cc ss cs) next ps gone ds → Booted rs ts gone ds bg hr ps st ch cc ss cs → kept-of ds .root .pos ≡ ps →
         Next (mem 4 ix bg hr ps st ch cc ss cs) next
     after-place gone ds is b e =
-        let few = at-most-one (b .flag) in
+        let few = at-most-one bg (b .flag) in
         let low : gone ≤ ps = subst (λ n. gone ≤ n) e (b .drawn .low) in
         releases gs w i lt g _ next ps gone ds is (mem 5 ix bg hr ps st ch cc ss cs) ps (step-placed ix bg hr ps st ch cc ss cs (b .sums-length) (b .counts-length))
         low (omega arith) (at-released ix bg hr ps st ch cc ds ss cs (released-to gone ds b e) e) (omega arith)
@@ -102,7 +102,7 @@ module _ (gs : Gauges) (fine : gauges-fine gs ≡ true) (w : World) (i : ℕ) (l
     after-release : (ds : Drawers) → Is (mem 5 ix bg hr ps st ch cc ss cs) next ps ps ds → Booted rs ts ps ds bg hr ps st ch cc ss cs → kept-of ds .root .pos ≡ ps →
         Next (mem 5 ix bg hr ps st ch cc ss cs) next
     after-release ds is b e =
-        let few = at-most-one (b .flag) in
+        let few = at-most-one bg (b .flag) in
         asks-more gs w i lt g _ next ps ps ds is (mem 6 ix bg hr ps st ch cc ss cs) (step-released ix bg hr ps st ch cc ss cs (b .sums-length) (b .counts-length))
         (λ end. (at-ends ix bg hr ps st ch cc ps ds ss cs b (λ _. refl) end, omega arith))
         (λ in-row room. (at-comes ix bg hr ps st ch cc ps ds ss cs b (λ _. refl) in-row room, omega arith))
@@ -133,7 +133,7 @@ module _ (gs : Gauges) (fine : gauges-fine gs ≡ true) (w : World) (i : ℕ) (l
           Next (mem 6 ix bg hr ps st ch cc ss cs) (comes (rd .time) (rd .key) (rd .value))
       takes is which ok opened =
           let f = fits-at rs ps (row-fine gs i fine .readings) in-row in
-          let few = at-most-one (b .flag) in
+          let few = at-most-one bg (b .flag) in
           let one : ps + 1 ≡ suc ps = add-one ps in
           let b₁ : Booted rs ts gone ds 1 (hour-of rd) (ps + 1) st ch cc ss₁ cs₁ = record {
               drawn = b .drawn; holds = opened; flag = inr refl; set = b .set; cursor = b .cursor; hour-small = hour-low; cursor-small = b .cursor-small; cell-small = b .cell-small;
@@ -405,7 +405,7 @@ module _ (gs : Gauges) (fine : gauges-fine gs ≡ true) (w : World) (i : ℕ) (l
         Next (mem 3 ix bg (K .root .hour) (K .root .pos) (set-number (K .root .set)) 0 0 (K .sums) (K .counts)) (slot (drawer-at ds 2))
     reads-cursor ix bg is flag holds =
         let lengths = boot-law .lengths ds in
-        let few : bg ≤ 1 = at-most-one ix bg 0 0 0 0 0 [] [] flag in
+        let few : bg ≤ 1 = at-most-one bg flag in
         froms gs w i lt g _ _ gone gone ds is (mem 4 ix bg (K .root .hour) (K .root .pos) (set-number (K .root .set)) (K .cursor .hour) (K .cursor .cell) (K .sums) (K .counts)) (K .root .pos)
         (step-cursor ix bg (K .root .hour) (K .root .pos) (set-number (K .root .set)) 0 0 (K .sums) (K .counts) (lengths .0) (lengths .1) (drawer-at ds 2) (K .cursor .hour) (K .cursor .cell)
             (sym (boot-law .cursor ds)) (d .cursor-fits .hour) (d .cursor-fits .cell))
@@ -451,7 +451,7 @@ module _ (gs : Gauges) (fine : gauges-fine gs ≡ true) (w : World) (i : ℕ) (l
             (step-over ix 1 hr ps st ch cc ss cs (b .sums-length) (b .counts-length) _ _ _ (fit .time) (fit .key) (fit .value) (λ z. omega arith) other) (all-here (omega arith))
             (λ k le low. omega arith) (omega arith))
         (cases-eq (hour-at rs ps) hr)
-    hears ix (suc (suc n)) hr ps st ch cc gone ds ss cs b in-row room is = absurd (omega (arith, at-most-one ix (suc (suc n)) hr ps st ch cc ss cs (b .flag)))
+    hears ix (suc (suc n)) hr ps st ch cc gone ds ss cs b in-row room is = absurd (omega (arith, at-most-one (suc (suc n)) (b .flag)))
 
     -- THERE ARE NO MORE
     finishes : (ix bg hr ps st ch cc gone : ℕ) (ds : Drawers) (ss cs : List ℕ) → Booted rs ts gone ds bg hr ps st ch cc ss cs → (bg ≡ 0 → gone ≡ ps) → length rs ≤ ps →
@@ -467,7 +467,7 @@ module _ (gs : Gauges) (fine : gauges-fine gs ≡ true) (w : World) (i : ℕ) (l
         tells-on 6 ix hr ps st ch cc ss cs ends ps gone ds is b (over-end rs ts (row-fine gs i fine) hr ps ss cs o end)
         (step-ends-open ix 1 hr ps st ch cc ss cs (b .sums-length) (b .counts-length) (λ z. omega arith)) (all-here (omega (arith, o .some, o .within)))
         (λ k le low. omega arith) (omega arith)
-    finishes ix (suc (suc n)) hr ps st ch cc gone ds ss cs b fresh end is = absurd (omega (arith, at-most-one ix (suc (suc n)) hr ps st ch cc ss cs (b .flag)))
+    finishes ix (suc (suc n)) hr ps st ch cc gone ds ss cs b fresh end is = absurd (omega (arith, at-most-one (suc (suc n)) (b .flag)))
 
     -- THE ROLL IS FULL
     fills : (ix bg hr ps st ch cc gone : ℕ) (ds : Drawers) (ss cs : List ℕ) → Booted rs ts gone ds bg hr ps st ch cc ss cs → (bg ≡ 0 → gone ≡ ps) → gone + 4096 ≤ ps →
@@ -476,7 +476,7 @@ module _ (gs : Gauges) (fine : gauges-fine gs ≡ true) (w : World) (i : ℕ) (l
     fills ix (suc zero) hr ps st ch cc gone ds ss cs b fresh full is =
         saves hr ps st ch cc gone ds ss cs b 6 ix 0 later is (lit< tt) (λ p d no-page. absurd (omega arith))
         (λ d e. step-filled ix 1 hr ps st ch cc ss cs (b .sums-length) (b .counts-length) d (λ z. omega arith) (shadow-drawer hr ps st ch cc gone ds ss cs b 0 d e)) (omega arith)
-    fills ix (suc (suc n)) hr ps st ch cc gone ds ss cs b fresh full is = absurd (omega (arith, at-most-one ix (suc (suc n)) hr ps st ch cc ss cs (b .flag)))
+    fills ix (suc (suc n)) hr ps st ch cc gone ds ss cs b fresh full is = absurd (omega (arith, at-most-one (suc (suc n)) (b .flag)))
 
     -- THE NEXT CELL, AFTER A CURSOR
     tells-next : (ix hr ps st cc at gone : ℕ) (ds : Drawers) (ss cs : List ℕ) → Booted rs ts gone ds 1 hr ps st hr cc ss cs → Over rs hr ps →
