@@ -7,7 +7,7 @@ use Prim.Native.Nat.{ℕ, zero, suc, _+_, _-_, _*_, _≤_, _<_}
 use native.Mathlib.Omega.{arith}
 use lib.Dec.{lit<}
 use lib.ListN.{length, getD, replicate}
-use Rattle.std.proofs.shelf.Tests.{cases-lt}
+use Rattle.std.proofs.shelf.Tests.{cases-lt, and-from}
 use Rattle.sums.specs.Cells.{places}
 use Rattle.sums.specs.Parts.{no-reading}
 use Rattle.sums.specs.Sums.{Reading, Gauges, Told-sum, every, hour-of, has-told, all-of, all-told, gauges-fine, is-right, none-of, those}
@@ -20,7 +20,9 @@ use Rattle.store.specs.Laws.{Empty-law}
 use Rattle.store.proofs.Checkpoints.{empty}
 use Rattle.machine.specs.Run.{World, Machine, machine, machine-at, set-nth, nth-row, with-machine, Event, wakes, next, one-step, poked, delivered, fallen, touches, Item, all-happened, calm, new-world, so-many-of, round}
 use Rattle.machine.specs.Entry.{own}
-use Rattle.promise.specs.Promise.{Safe, Whole, core, others-empty}
+use Rattle.machine.proofs.Steadies.{steady}
+use Rattle.promise.specs.Promise.{Safe, Whole, core}
+use Rattle.promise.specs.Released.{Released-kept, All-released}
 use Rattle.promise.proofs.Acts.{on-poked}
 use Rattle.promise.proofs.Calm.{Rests, All-rest, round-rests, delivered-none}
 use Rattle.promise.proofs.Induction.{Keeps, all-good, calm-good}
@@ -165,3 +167,56 @@ module _ (gs : Gauges) (fine : gauges-fine gs ≡ true) (known : core gs ≡ tru
       high v i lt h =
           let x = machine-at (v .machines) i in
           omega (arith, rank-high (nth-row gs i) (v .told) (x .memory) (x .pending) (x .reads-at) (x .gone) (x .slots) (h .each i lt), row-fine gs i fine .few)
+
+every-at-each : {A : Type 0} (f : A → Bool) (xs : List A) (d : A) → ((j : ℕ) → j < length xs → f (getD xs j d) ≡ true) → every f xs ≡ true
+unfolding every
+every-at-each f [] d h = refl
+every-at-each f (x ∷ xs) d h = and-from _ _ (h 0 (omega arith)) (every-at-each f xs d (λ j lt. h (suc j) (omega arith)))
+
+module _ (gs : Gauges) (fine : gauges-fine gs ≡ true) (known : core gs ≡ true) (is : List Item) where
+  abbrev happening : World
+  happening = all-happened own gs (new-world own) is
+
+  happened-well : Good gs (all-happened own gs (new-world own) is)
+  happened-well = all-good own gs (Good gs) (keeps-good gs fine known) is (new-world own) (start-good gs fine known)
+
+  calm-well : (k n : ℕ) → Good gs (calm k n own gs (all-happened own gs (new-world own) is))
+  calm-well k n = calm-good own gs (Good gs) (keeps-good gs fine known) k n _ happened-well
+
+  abbrev after : World
+  after = round (acts-enough gs fine known) own gs (all-happened own gs (new-world own) is)
+
+  at-rest : All-rest (Good gs) after
+  at-rest = calm-rests gs fine known _ happened-well
+
+  -- each machine has told all and released its row
+  all-finished : (i : ℕ) → i < 8 → Finished (nth-row gs i) (after .told) (machine-at (after .machines) i .memory) (machine-at (after .machines) i .reads-at)
+      (machine-at (after .machines) i .gone) (machine-at (after .machines) i .slots)
+  all-finished i lt =
+      let x = machine-at (after .machines) i in
+      finished (nth-row gs i) (after .told) (x .memory) (x .reads-at) (x .gone) (x .slots)
+      (subst (λ l. Runs (nth-row gs i) (after .told) (x .memory) l (x .reads-at) (x .gone) (x .slots)) (at-rest .rest i) (at-rest .good .each i lt))
+
+  all-on-wall : all-told gs (after .told) ≡ true
+  all-on-wall =
+      subst (λ l. every (λ r. has-told (after .told) (hour-of r) (r .key)) l ≡ true) (sym (first-is-all gs known))
+      (every-at-each _ (nth-row gs 0) no-reading (all-finished 0 (lit< tt) .all))
+
+pub whole-core : Whole core own
+unfolding Whole Safe calm
+whole-core = (
+    steady,
+    λ gs is fine known few. (
+        (happened-well gs fine known is .fault, happened-well gs fine known is .right),
+        λ k n. (calm-well gs fine known is k n .fault, calm-well gs fine known is k n .right),
+        (1, acts-enough gs fine known, all-on-wall gs fine known is)))
+
+pub released-kept : Released-kept
+unfolding Released-kept
+released-kept gs is k n i fine known lt =
+    let x = machine-at (calm k n own gs (all-happened own gs (new-world own) is) .machines) i in
+    drawn-of (nth-row gs i) _ (x .memory) (x .pending) (x .reads-at) (x .gone) (x .slots) (calm-well gs fine known is k n .each i lt) .low
+
+pub all-released : All-released
+unfolding All-released calm
+all-released gs is fine known = (1, acts-enough gs fine known, λ i lt. all-finished gs fine known is i lt .released)
