@@ -50,7 +50,8 @@ module _ (rs : List Reading) (ts : List Told-sum) where
       record {
         poked-too = at-done (next ∷ []) ix hr ps st ch cc at ds ss cs b end (inr refl);
         all = λ j lt. s .before j (omega arith);
-        released = omega (arith, s .within) }
+        released = omega (arith, s .within);
+      }
 
   -- how many acts are left at most
   rank-high : (m : List ℕ) (evs : List Event) (at gone : ℕ) (ds : Drawers) → Runs rs ts m evs at gone ds → rank (length rs) m evs ≤ 10000 * (length rs + 2) + 30
@@ -75,17 +76,18 @@ module _ (rs : List Reading) (ts : List Told-sum) where
   -- drawers that are still empty
   drawn-empty : (ds : Drawers) → length ds ≡ 256 → kept-of ds ≡ kept zero-root zero-table zero-table zero-cursor → Drawn rs ts 0 ds
   drawn-empty ds long e = record {
-      size = long;
-      low = omega arith;
-      high = subst (λ (k : Kept). k .root .pos ≤ 0 + 4096) (sym e) (omega arith);
-      root-fits = subst (λ (k : Kept). Root-fits (k .root)) (sym e) (record { hour = lit< tt; pos = lit< tt });
-      hour-small = subst (λ (k : Kept). small (k .root .hour + 1)) (sym e) (lit< tt);
-      cursor-fits = subst (λ (k : Kept). Cursor-fits (k .cursor)) (sym e) (record { hour = lit< tt; cell = lit< tt });
-      holds = subst (λ (k : Kept). Holds rs ts (set-number (k .root .set)) (k .root .hour) (k .root .pos) (k .sums) (k .counts)) (sym e)
-          (record { within = omega arith; apart = λ j k jp. absurd (omega arith); sums = refl; counts = refl; before = λ j jp. absurd (omega arith) });
-      all-pages = λ some. absurd (some (ap (λ (k : Kept). k .root .set) e));
-      cursor = subst (λ (k : Kept). Cursor-true rs ts (k .cursor .hour) (k .cursor .cell)) (sym e)
-          (λ j lt w. ⊎-elim (λ (l : hour-at rs j < 0). absurd (omega arith)) (λ l. absurd (omega (arith, l .1))) w) }
+    size = long;
+    low = omega arith;
+    high = subst (λ (k : Kept). k .root .pos ≤ 0 + 4096) (sym e) (omega arith);
+    root-fits = subst (λ (k : Kept). Root-fits (k .root)) (sym e) (record { hour = lit< tt; pos = lit< tt });
+    hour-small = subst (λ (k : Kept). small (k .root .hour + 1)) (sym e) (lit< tt);
+    cursor-fits = subst (λ (k : Kept). Cursor-fits (k .cursor)) (sym e) (record { hour = lit< tt; cell = lit< tt });
+    holds = subst (λ (k : Kept). Holds rs ts (set-number (k .root .set)) (k .root .hour) (k .root .pos) (k .sums) (k .counts)) (sym e)
+        (record { within = omega arith; apart = λ j k jp. absurd (omega arith); sums = refl; counts = refl; before = λ j jp. absurd (omega arith) });
+    all-pages = λ some. absurd (some (ap (λ (k : Kept). k .root .set) e));
+    cursor = subst (λ (k : Kept). Cursor-true rs ts (k .cursor .hour) (k .cursor .cell)) (sym e)
+        (λ j lt w. ⊎-elim (λ (l : hour-at rs j < 0). absurd (omega arith)) (λ l. absurd (omega (arith, l .1))) w);
+  }
 
 set-past : (ms : List Machine) (i : ℕ) (x : Machine) → length ms ≤ i → set-nth ms i x ≡ ms
 unfolding set-nth
@@ -120,7 +122,7 @@ module _ (gs : Gauges) (fine : gauges-fine gs ≡ true) (known : core gs ≡ tru
       let x = machine-at (w .machines) i in
       subst (λ l. Stepped gs (one-step own gs w i (ev ∷ evs)) i (rank (length (nth-row gs i)) (machine-at (w .machines) i .memory) l)) (sym e)
       (steps-well gs fine w i lt g known (x .memory) ev evs (x .reads-at) (x .gone) (x .slots) (ap (λ l. machine (x .memory) l (x .reads-at) (x .gone) (x .slots)) e)
-          (subst (λ l. Runs (nth-row gs i) (w .told) (x .memory) l (x .reads-at) (x .gone) (x .slots)) e (g .each i lt)))
+      (subst (λ l. Runs (nth-row gs i) (w .told) (x .memory) l (x .reads-at) (x .gone) (x .slots)) e (g .each i lt)))
 
   step-from : (w : World) (i : ℕ) → Good gs w → (evs : List Event) → machine-at (w .machines) i .pending ≡ evs → Good gs (one-step own gs w i evs)
   unfolding one-step
@@ -133,17 +135,18 @@ module _ (gs : Gauges) (fine : gauges-fine gs ≡ true) (known : core gs ≡ tru
   pub keeps-good : Keeps own gs (Good gs)
   unfolding none-of those
   keeps-good = record {
-      steps = λ w i f g. step-from w i g (machine-at (w .machines) i .pending) refl;
-      pokes = λ w i g. on-poked w (Good gs) i (λ rest. put w i _ g (λ lt.
-          let x = machine-at (w .machines) i in
-          finished (nth-row gs i) (w .told) (x .memory) (x .reads-at) (x .gone) (x .slots)
-              (subst (λ l. Runs (nth-row gs i) (w .told) (x .memory) l (x .reads-at) (x .gone) (x .slots)) (none-nil (x .pending) rest) (g .each i lt)) .poked-too)) (λ _. g);
-      delivers = λ w i j g. subst (Good gs) (sym (delivered-none w i j (g .wires))) g;
-      falls-down = λ w i g.
-          let x = machine-at (w .machines) i in
-          let v : Good gs (with-machine w i (machine (own .start) (wakes i ∷ []) (x .gone) (x .gone) (x .slots))) = put w i _ g (λ lt.
-              waking i (x .gone) (x .slots) (drawn-of (nth-row gs i) (w .told) (x .memory) (x .pending) (x .reads-at) (x .gone) (x .slots) (g .each i lt))) in
-          record { fault = v .fault; wires = ap (those (λ l. not (touches i l))) (g .wires); eight = v .eight; right = v .right; each = v .each } }
+    steps = λ w i f g. step-from w i g (machine-at (w .machines) i .pending) refl;
+    pokes = λ w i g. on-poked w (Good gs) i (λ rest. put w i _ g (λ lt.
+        let x = machine-at (w .machines) i in
+        finished (nth-row gs i) (w .told) (x .memory) (x .reads-at) (x .gone) (x .slots)
+        (subst (λ l. Runs (nth-row gs i) (w .told) (x .memory) l (x .reads-at) (x .gone) (x .slots)) (none-nil (x .pending) rest) (g .each i lt)) .poked-too)) (λ _. g);
+    delivers = λ w i j g. subst (Good gs) (sym (delivered-none w i j (g .wires))) g;
+    falls-down = λ w i g.
+        let x = machine-at (w .machines) i in
+        let v : Good gs (with-machine w i (machine (own .start) (wakes i ∷ []) (x .gone) (x .gone) (x .slots))) = put w i _ g (λ lt.
+        waking i (x .gone) (x .slots) (drawn-of (nth-row gs i) (w .told) (x .memory) (x .pending) (x .reads-at) (x .gone) (x .slots) (g .each i lt))) in
+        record { fault = v .fault; wires = ap (those (λ l. not (touches i l))) (g .wires); eight = v .eight; right = v .right; each = v .each };
+  }
 
   -- the world at the start
   pub start-good : Good gs (new-world own)
@@ -151,9 +154,13 @@ module _ (gs : Gauges) (fine : gauges-fine gs ≡ true) (known : core gs ≡ tru
   start-good =
       let all-empty : kept-of (so-many-of 256 []) ≡ kept zero-root zero-table zero-table zero-cursor = ap kept-of (so-many 256) ∙ empty-kept in
       record {
-        fault = refl; wires = refl; eight = length-numbered own 8; right = refl;
+        fault = refl;
+        wires = refl;
+        eight = length-numbered own 8;
+        right = refl;
         each = λ j lt. subst (λ (x : Machine). Machine-runs (nth-row gs j) [] x) (sym (numbered-at own 8 j lt))
-            (waking j 0 (so-many-of 256 []) (drawn-empty (nth-row gs j) [] (so-many-of 256 []) (length-so-many 256 []) all-empty)) }
+            (waking j 0 (so-many-of 256 []) (drawn-empty (nth-row gs j) [] (so-many-of 256 []) (length-so-many 256 []) all-empty));
+      }
 
   -- after one round of calm, each with acts enough, all rest
   abbrev pub acts-enough : ℕ
@@ -205,11 +212,13 @@ module _ (gs : Gauges) (fine : gauges-fine gs ≡ true) (known : core gs ≡ tru
 pub whole-core : Whole core own
 unfolding Whole Safe calm
 whole-core = (
-    steady,
-    λ gs is fine known few. (
-        (happened-well gs fine known is .fault, happened-well gs fine known is .right),
-        λ k n. (calm-well gs fine known is k n .fault, calm-well gs fine known is k n .right),
-        (1, acts-enough gs fine known, all-on-wall gs fine known is)))
+  steady,
+  λ gs is fine known few. (
+    (happened-well gs fine known is .fault, happened-well gs fine known is .right),
+    λ k n. (calm-well gs fine known is k n .fault, calm-well gs fine known is k n .right),
+    (1, acts-enough gs fine known, all-on-wall gs fine known is),
+  ),
+)
 
 pub released-kept : Released-kept
 unfolding Released-kept

@@ -44,15 +44,16 @@ drawn-as : (rs : List Reading) (ts : List Told-sum) (gone : ℕ) (es : Drawers) 
     ((k .root .set ≡ page-set.None → ⊥) → Pages-kept es (k .root .set) (k .sums) (k .counts) pages) → Cursor-true rs ts (k .cursor .hour) (k .cursor .cell) →
     Drawn rs ts gone es
 drawn-as rs ts gone es k e size low high fits hour cursor-fit holds all true-cursor = record {
-    size = size;
-    low = subst (λ (x : Kept). gone ≤ x .root .pos) (sym e) low;
-    high = subst (λ (x : Kept). x .root .pos ≤ gone + 4096) (sym e) high;
-    root-fits = subst (λ (x : Kept). Root-fits (x .root)) (sym e) fits;
-    hour-small = subst (λ (x : Kept). small (x .root .hour + 1)) (sym e) hour;
-    cursor-fits = subst (λ (x : Kept). Cursor-fits (x .cursor)) (sym e) cursor-fit;
-    holds = subst (λ (x : Kept). Holds rs ts (set-number (x .root .set)) (x .root .hour) (x .root .pos) (x .sums) (x .counts)) (sym e) holds;
-    all-pages = subst (λ (x : Kept). (x .root .set ≡ page-set.None → ⊥) → Pages-kept es (x .root .set) (x .sums) (x .counts) pages) (sym e) all;
-    cursor = subst (λ (x : Kept). Cursor-true rs ts (x .cursor .hour) (x .cursor .cell)) (sym e) true-cursor }
+  size = size;
+  low = subst (λ (x : Kept). gone ≤ x .root .pos) (sym e) low;
+  high = subst (λ (x : Kept). x .root .pos ≤ gone + 4096) (sym e) high;
+  root-fits = subst (λ (x : Kept). Root-fits (x .root)) (sym e) fits;
+  hour-small = subst (λ (x : Kept). small (x .root .hour + 1)) (sym e) hour;
+  cursor-fits = subst (λ (x : Kept). Cursor-fits (x .cursor)) (sym e) cursor-fit;
+  holds = subst (λ (x : Kept). Holds rs ts (set-number (x .root .set)) (x .root .hour) (x .root .pos) (x .sums) (x .counts)) (sym e) holds;
+  all-pages = subst (λ (x : Kept). (x .root .set ≡ page-set.None → ⊥) → Pages-kept es (x .root .set) (x .sums) (x .counts) pages) (sym e) all;
+  cursor = subst (λ (x : Kept). Cursor-true rs ts (x .cursor .hour) (x .cursor .cell)) (sym e) true-cursor;
+}
 
 -- a checkpoint's set has pages, so there is an hour at hand
 holds-shadow : (rs : List Reading) (ts : List Told-sum) (s : PageSet) (c p : ℕ) (ss cs : List ℕ) → Open rs ts c p ss cs → Holds rs ts (set-number (shadow-of s)) c p ss cs
@@ -131,27 +132,32 @@ module _ (rs : List Reading) (ts : List Told-sum) (gone : ℕ) (ds : Drawers) (d
 pub booted-drawers : (rs : List Reading) (ts : List Told-sum) (gone : ℕ) (ds es : Drawers) (bg hr ps st ch cc : ℕ) (ss cs : List ℕ) →
     Booted rs ts gone ds bg hr ps st ch cc ss cs → Drawn rs ts gone es → kept-of es .root ≡ kept-of ds .root → Booted rs ts gone es bg hr ps st ch cc ss cs
 booted-drawers rs ts gone ds es bg hr ps st ch cc ss cs b d e = record {
-    drawn = d;
-    holds = b .holds;
-    flag = b .flag;
-    set = b .set ∙ ap (λ (r : Root). set-number (r .set)) (sym e);
-    cursor = b .cursor;
-    hour-small = b .hour-small; cursor-small = b .cursor-small; cell-small = b .cell-small;
-    sums-length = b .sums-length; counts-length = b .counts-length;
-    newer = subst (λ (r : Root). r .pos ≤ ps) (sym e) (b .newer);
-    room = b .room }
+  drawn = d;
+  holds = b .holds;
+  flag = b .flag;
+  set = b .set ∙ ap (λ (r : Root). set-number (r .set)) (sym e);
+  cursor = b .cursor;
+  hour-small = b .hour-small;
+  cursor-small = b .cursor-small;
+  cell-small = b .cell-small;
+  sums-length = b .sums-length;
+  counts-length = b .counts-length;
+  newer = subst (λ (r : Root). r .pos ≤ ps) (sym e) (b .newer);
+  room = b .room;
+}
 
 -- the tables of an hour at hand fit in pages
 pub tables-fit : (rs : List Reading) (ts : List Told-sum) → Fine rs → (c p : ℕ) (ss cs : List ℕ) → Open rs ts c p ss cs → Tables-fit ss cs
 tables-fit rs ts fine c p ss cs o = record {
-    sums-length = o .tables .sums .0;
-    counts-length = o .tables .counts .0;
-    sums = λ x lt.
-        let e : getD ss x 0 ≡ part rs p c (place-of x) = ap (λ n. getD ss n 0) (sym (cell-back x lt)) ∙ o .tables .sums .1 (place-of x) (place-fits x lt) in
-        subst (λ n. n < 18446744073709551616) (sym e) (part-fits rs p c (place-of x) (fine .readings) (fine .few));
-    counts = λ x lt.
-        let e : getD cs x 0 ≡ count-of rs p c (place-of x) = ap (λ n. getD cs n 0) (sym (cell-back x lt)) ∙ o .tables .counts .1 (place-of x) (place-fits x lt) in
-        subst (λ n. n < 4294967296) (sym e) (count-fits rs p c (place-of x) (fine .few)) }
+  sums-length = o .tables .sums .0;
+  counts-length = o .tables .counts .0;
+  sums = λ x lt.
+      let e : getD ss x 0 ≡ part rs p c (place-of x) = ap (λ n. getD ss n 0) (sym (cell-back x lt)) ∙ o .tables .sums .1 (place-of x) (place-fits x lt) in
+      subst (λ n. n < 18446744073709551616) (sym e) (part-fits rs p c (place-of x) (fine .readings) (fine .few));
+  counts = λ x lt.
+      let e : getD cs x 0 ≡ count-of rs p c (place-of x) = ap (λ n. getD cs n 0) (sym (cell-back x lt)) ∙ o .tables .counts .1 (place-of x) (place-fits x lt) in
+      subst (λ n. n < 4294967296) (sym e) (count-fits rs p c (place-of x) (fine .few));
+}
 
 -- what is kept is bytes, and few enough
 bytes-fit : (bs : List ℕ) (n : ℕ) → length bs ≡ n → n ≤ 4096 → every (λ b. ltb b 256) bs ≡ true → bytes bs ≡ true
@@ -189,7 +195,7 @@ page-there rs ts gone ds fine d p e some at =
     let ss = kept-of ds .sums in
     let cs = kept-of ds .counts in
     let fit = tables-fit rs ts fine (kept-of ds .root .hour) (kept-of ds .root .pos) ss cs
-        (open-of rs ts s (kept-of ds .root .hour) (kept-of ds .root .pos) ss cs some (d .holds)) in
+    (open-of rs ts s (kept-of ds .root .hour) (kept-of ds .root .pos) ss cs some (d .holds)) in
     let lt = page-within s p e at in
     let xs = page-cut p ss in
     let ys = page-cut p cs in

@@ -90,12 +90,13 @@ module _ (rs : List Reading) (ts : List Told-sum) (fine : Fine rs) where
     opened : (c : ℕ) → Tables-of rs p c ss cs → hour-at rs p ≡ c → ((j : ℕ) → j < p → hour-at rs j < c → Is-told rs ts j) →
         Open rs ts c (p + 1) (with-sum ss (entry-of ss cs (next-reading rs p))) (with-count cs (entry-of ss cs (next-reading rs p)))
     opened c t e b = record {
-        some = omega arith;
-        within = omega arith;
-        last = ap (hour-at rs) (add-sub p) ∙ e;
-        tables = subst (λ n. Tables-of rs n c (with-sum ss (entry-of ss cs (next-reading rs p))) (with-count cs (entry-of ss cs (next-reading rs p)))) (sym (add-one p))
-            (tables-more rs p c ss cs (fine .readings) (fine .few) lt t e .1);
-        before = λ j jp l. ⊎-elim (λ (q : j < p). b j q l) (λ (q : p ≤ j). absurd (same-place j q jp l e)) (cases-lt j p) }
+      some = omega arith;
+      within = omega arith;
+      last = ap (hour-at rs) (add-sub p) ∙ e;
+      tables = subst (λ n. Tables-of rs n c (with-sum ss (entry-of ss cs (next-reading rs p))) (with-count cs (entry-of ss cs (next-reading rs p)))) (sym (add-one p))
+          (tables-more rs p c ss cs (fine .readings) (fine .few) lt t e .1);
+      before = λ j jp l. ⊎-elim (λ (q : j < p). b j q l) (λ (q : p ≤ j). absurd (same-place j q jp l e)) (cases-lt j p);
+    }
 
     -- the first reading of an hour
     pub open-first : Shut rs ts p ss cs →
@@ -103,7 +104,7 @@ module _ (rs : List Reading) (ts : List Told-sum) (fine : Fine rs) where
     open-first s =
         let fresh : (j : ℕ) → j < p → j < length rs → hour-at rs j ≡ hour-at rs p → ⊥ = λ j jp jl e. omega (arith, s .apart j p jp (omega arith) lt) in
         let zeros : Tables-of rs p (hour-at rs p) ss cs = subst (λ x. Tables-of rs p (hour-at rs p) x cs) (sym (s .sums))
-            (subst (λ x. Tables-of rs p (hour-at rs p) zero-table x) (sym (s .counts)) (tables-zeros rs p (hour-at rs p) fresh)) in
+        (subst (λ x. Tables-of rs p (hour-at rs p) zero-table x) (sym (s .counts)) (tables-zeros rs p (hour-at rs p) fresh)) in
         opened (hour-at rs p) zeros refl (λ j jp l. s .before j jp)
 
     -- one more of the hour at hand
@@ -165,8 +166,8 @@ module _ (rs : List Reading) (ts : List Told-sum) (fine : Fine rs) where
         told-before j lt e l = ⊎-elim
             (λ (q : h ≡ c). known j lt (inr (e ∙ sym q, subst (λ n. cell-of (place-at rs j) < n) (cond-true _ _ _ (eq-eqb h c q)) l)))
             (λ (q : h ≡ c → ⊥). ⊎-elim
-                (λ (less : h < c). absurd (omega (arith, subst (λ n. cell-of (place-at rs j) < n) (cond-false _ _ _ (ne-eqb h c q) ∙ cond-true _ _ _ (lt-ltb h c less)) l)))
-                (λ (ge : c ≤ h). known j lt (inl (omega (arith, q)))) (cases-lt h c))
+            (λ (less : h < c). absurd (omega (arith, subst (λ n. cell-of (place-at rs j) < n) (cond-false _ _ _ (ne-eqb h c q) ∙ cond-true _ _ _ (lt-ltb h c less)) l)))
+            (λ (ge : c ≤ h). known j lt (inl (omega (arith, q)))) (cases-lt h c))
             (cases-eq h c)
 
         -- a cell is told, and nothing between was left: the cursor behind it is true
@@ -178,13 +179,13 @@ module _ (rs : List Reading) (ts : List Told-sum) (fine : Fine rs) where
             let low : place-at rs j < places = key-fits rs j (fine .readings) lt in
             ⊎-elim
             (λ (q : cell-of (place-at rs j) ≡ k).
-                let same : place-of k ≡ place-at rs j = ap place-of (sym q) ∙ place-back (place-at rs j) low in
-                any-last (λ t. eqb (t .hour) (hour-at rs j) && eqb (t .place) (place-at rs j)) ts (record { hour = c; place = place-of k; sum = s })
-                    (and-from _ _ (eq-eqb c (hour-at rs j) (sym (w .0))) (eq-eqb (place-of k) (place-at rs j) same)))
+            let same : place-of k ≡ place-at rs j = ap place-of (sym q) ∙ place-back (place-at rs j) low in
+            any-last (λ t. eqb (t .hour) (hour-at rs j) && eqb (t .place) (place-at rs j)) ts (record { hour = c; place = place-of k; sum = s })
+            (and-from _ _ (eq-eqb c (hour-at rs j) (sym (w .0))) (eq-eqb (place-of k) (place-at rs j) same)))
             (λ (q : cell-of (place-at rs j) ≡ k → ⊥). told-more rs ts _ _ _ (⊎-elim
-                (λ (l : cell-of (place-at rs j) < first-cell). told-before j lt (w .0) l)
-                (λ (g : first-cell ≤ cell-of (place-at rs j)). absurd (omega (arith, counted j lt (w .0), none x g (omega (arith, q, w .1)))))
-                (cases-lt (cell-of (place-at rs j)) first-cell)))
+            (λ (l : cell-of (place-at rs j) < first-cell). told-before j lt (w .0) l)
+            (λ (g : first-cell ≤ cell-of (place-at rs j)). absurd (omega (arith, counted j lt (w .0), none x g (omega (arith, q, w .1)))))
+            (cases-lt (cell-of (place-at rs j)) first-cell)))
             (cases-eq (cell-of (place-at rs j)) k)
 
         -- nothing is left of the hour: the cursor past it is true
@@ -195,19 +196,20 @@ module _ (rs : List Reading) (ts : List Told-sum) (fine : Fine rs) where
             ⊎-elim
             (λ (q : hour-at rs j < c). o .before j (read-already j lt (omega arith)) q)
             (λ (q : c ≤ hour-at rs j).
-                let same : hour-at rs j ≡ c = omega arith in
-                ⊎-elim
-                (λ (f : cell-of (place-at rs j) < first-cell). told-before j lt same f)
-                (λ (g : first-cell ≤ cell-of (place-at rs j)).
-                    absurd (omega (arith, counted j lt same, none (cell-of (place-at rs j)) g (cell-fits (place-at rs j) low))))
-                (cases-lt (cell-of (place-at rs j)) first-cell))
+            let same : hour-at rs j ≡ c = omega arith in
+            ⊎-elim
+            (λ (f : cell-of (place-at rs j) < first-cell). told-before j lt same f)
+            (λ (g : first-cell ≤ cell-of (place-at rs j)).
+            absurd (omega (arith, counted j lt same, none (cell-of (place-at rs j)) g (cell-fits (place-at rs j) low))))
+            (cases-lt (cell-of (place-at rs j)) first-cell))
             (cases-lt (hour-at rs j) c)
 
     -- with the cursor past the hour, no hour is at hand any more
     pub shut-after : Over rs c p → Cursor-true rs ts (c + 1) 0 → Shut rs ts p zero-table zero-table
     shut-after over known = record {
-        within = o .within;
-        apart = λ j k jp pk lk. omega (arith, up-to-hour j jp, over k pk lk);
-        sums = refl;
-        counts = refl;
-        before = λ j jp. known j (omega (arith, o .within)) (inl (omega (arith, up-to-hour j jp))) }
+      within = o .within;
+      apart = λ j k jp pk lk. omega (arith, up-to-hour j jp, over k pk lk);
+      sums = refl;
+      counts = refl;
+      before = λ j jp. known j (omega (arith, o .within)) (inl (omega (arith, up-to-hour j jp)));
+    }

@@ -94,10 +94,29 @@ module _ (gs : Gauges) (fine : gauges-fine gs ≡ true) (w : World) (i : ℕ) (l
         released-to gone ds b e =
             let d = b .drawn in
             record {
-              drawn = record { size = d .size; low = omega arith; high = omega arith; root-fits = d .root-fits; hour-small = d .hour-small; cursor-fits = d .cursor-fits;
-                  holds = d .holds; all-pages = d .all-pages; cursor = d .cursor };
-              holds = b .holds; flag = b .flag; set = b .set; cursor = b .cursor; hour-small = b .hour-small; cursor-small = b .cursor-small; cell-small = b .cell-small;
-              sums-length = b .sums-length; counts-length = b .counts-length; newer = b .newer; room = omega arith }
+              drawn = record {
+                size = d .size;
+                low = omega arith;
+                high = omega arith;
+                root-fits = d .root-fits;
+                hour-small = d .hour-small;
+                cursor-fits = d .cursor-fits;
+                holds = d .holds;
+                all-pages = d .all-pages;
+                cursor = d .cursor;
+              };
+              holds = b .holds;
+              flag = b .flag;
+              set = b .set;
+              cursor = b .cursor;
+              hour-small = b .hour-small;
+              cursor-small = b .cursor-small;
+              cell-small = b .cell-small;
+              sums-length = b .sums-length;
+              counts-length = b .counts-length;
+              newer = b .newer;
+              room = omega arith;
+            }
 
     after-release : (ds : Drawers) → Is (mem 5 ix bg hr ps st ch cc ss cs) next ps ps ds → Booted rs ts ps ds bg hr ps st ch cc ss cs → kept-of ds .root .pos ≡ ps →
         Next (mem 5 ix bg hr ps st ch cc ss cs) next
@@ -136,18 +155,38 @@ module _ (gs : Gauges) (fine : gauges-fine gs ≡ true) (w : World) (i : ℕ) (l
           let few = at-most-one bg (b .flag) in
           let one : ps + 1 ≡ suc ps = add-one ps in
           let b₁ : Booted rs ts gone ds 1 (hour-of rd) (ps + 1) st ch cc ss₁ cs₁ = record {
-              drawn = b .drawn; holds = opened; flag = inr refl; set = b .set; cursor = b .cursor; hour-small = hour-low; cursor-small = b .cursor-small; cell-small = b .cell-small;
-              sums-length = length-set ss _ _ ∙ b .sums-length; counts-length = length-set cs _ _ ∙ b .counts-length; newer = omega (arith, b .newer); room = omega arith } in
+            drawn = b .drawn;
+            holds = opened;
+            flag = inr refl;
+            set = b .set;
+            cursor = b .cursor;
+            hour-small = hour-low;
+            cursor-small = b .cursor-small;
+            cell-small = b .cell-small;
+            sums-length = length-set ss _ _ ∙ b .sums-length;
+            counts-length = length-set cs _ _ ∙ b .counts-length;
+            newer = omega (arith, b .newer);
+            room = omega arith;
+          } in
           asks-more gs w i lt g _ _ (suc ps) gone ds is (mem 6 ix 1 (hour-of rd) (ps + 1) st ch cc ss₁ cs₁)
           (step-takes ix bg hr ps st ch cc ss cs (b .sums-length) (b .counts-length) (rd .time) (rd .key) (rd .value) entry (f .time) (f .key) (f .value) which ok
-              (cell-fits (rd .key) (f .key)) (omega (arith, row-few)))
-          (λ end. (subst (λ n. Runs rs ts (mem 6 ix 1 (hour-of rd) (ps + 1) st ch cc ss₁ cs₁) (ends ∷ []) n gone ds) one
-              (at-ends ix 1 (hour-of rd) (ps + 1) st ch cc gone ds ss₁ cs₁ b₁ (λ z. absurd (omega arith)) (omega arith)), omega arith))
-          (λ more-row more-room. (subst (λ n. Runs rs ts (mem 6 ix 1 (hour-of rd) (ps + 1) st ch cc ss₁ cs₁)
-              (comes (getD rs n no-reading .time) (getD rs n no-reading .key) (getD rs n no-reading .value) ∷ []) (suc n) gone ds) one
-              (at-comes ix 1 (hour-of rd) (ps + 1) st ch cc gone ds ss₁ cs₁ b₁ (λ z. absurd (omega arith)) (omega arith) (omega arith)), omega arith))
-          (λ more-row full. (subst (λ n. Runs rs ts (mem 6 ix 1 (hour-of rd) (ps + 1) st ch cc ss₁ cs₁) (later ∷ []) n gone ds) one
-              (at-later ix 1 (hour-of rd) (ps + 1) st ch cc gone ds ss₁ cs₁ b₁ (λ z. absurd (omega arith)) (omega arith)), omega arith))
+          (cell-fits (rd .key) (f .key)) (omega (arith, row-few)))
+          (λ end. (
+            subst (λ n. Runs rs ts (mem 6 ix 1 (hour-of rd) (ps + 1) st ch cc ss₁ cs₁) (ends ∷ []) n gone ds) one
+                (at-ends ix 1 (hour-of rd) (ps + 1) st ch cc gone ds ss₁ cs₁ b₁ (λ z. absurd (omega arith)) (omega arith)),
+            omega arith,
+          ))
+          (λ more-row more-room. (
+            subst (λ n. Runs rs ts (mem 6 ix 1 (hour-of rd) (ps + 1) st ch cc ss₁ cs₁)
+                (comes (getD rs n no-reading .time) (getD rs n no-reading .key) (getD rs n no-reading .value) ∷ []) (suc n) gone ds) one
+                (at-comes ix 1 (hour-of rd) (ps + 1) st ch cc gone ds ss₁ cs₁ b₁ (λ z. absurd (omega arith)) (omega arith) (omega arith)),
+            omega arith,
+          ))
+          (λ more-row full. (
+            subst (λ n. Runs rs ts (mem 6 ix 1 (hour-of rd) (ps + 1) st ch cc ss₁ cs₁) (later ∷ []) n gone ds) one
+                (at-later ix 1 (hour-of rd) (ps + 1) st ch cc gone ds ss₁ cs₁ b₁ (λ z. absurd (omega arith)) (omega arith)),
+            omega arith,
+          ))
 
   -- AN HOUR THAT IS OVER: the next cell is told, or the cursor goes past it
   module _ (ph ix hr ps st ch cc : ℕ) (ss cs : List ℕ) (ev : Event) (at gone : ℕ) (ds : Drawers)
@@ -164,13 +203,22 @@ module _ (gs : Gauges) (fine : gauges-fine gs ≡ true) (w : World) (i : ℕ) (l
         let right = cell-right rs ts (row-fine gs i fine) hr ps ss cs o over k low (seen .1) in
         let row : Told-sum = record { hour = hr; place = place-of k; sum = getD ss k 0 } in
         let ok : is-right gs row ≡ true = and-from _ _ (ap (any (belongs hr (place-of k))) whole ∙ right .0)
-            (eq-eqb _ _ (right .1 ∙ sym (ap (λ l. added-up (λ r. r .value) (those (belongs hr (place-of k)) l)) whole))) in
+        (eq-eqb _ _ (right .1 ∙ sym (ap (λ l. added-up (λ r. r .value) (those (belongs hr (place-of k)) l)) whole))) in
         let b₁ : Booted rs (ts ++ row ∷ []) gone ds 1 hr ps st ch cc ss cs = booted-more rs ts (row ∷ []) gone ds 1 hr ps st ch cc ss cs b in
         let b₂ : Booted rs (ts ++ row ∷ []) gone ds 1 hr ps st hr (k + 1) ss cs = record {
-            drawn = b₁ .drawn; holds = b₁ .holds; flag = b₁ .flag; set = b₁ .set;
-            cursor = cell-told rs ts (row-fine gs i fine) hr ps ss cs o over ch cc (b .cursor) k (getD ss k 0) low (seen .0) (seen .2);
-            hour-small = b .hour-small; cursor-small = omega (arith, b .hour-small); cell-small = omega arith;
-            sums-length = b .sums-length; counts-length = b .counts-length; newer = b .newer; room = b .room } in
+          drawn = b₁ .drawn;
+          holds = b₁ .holds;
+          flag = b₁ .flag;
+          set = b₁ .set;
+          cursor = cell-told rs ts (row-fine gs i fine) hr ps ss cs o over ch cc (b .cursor) k (getD ss k 0) low (seen .0) (seen .2);
+          hour-small = b .hour-small;
+          cursor-small = omega (arith, b .hour-small);
+          cell-small = omega arith;
+          sums-length = b .sums-length;
+          counts-length = b .counts-length;
+          newer = b .newer;
+          room = b .room;
+        } in
         tells-row gs w i lt g M ev at gone ds is (mem 9 ix 1 hr ps st hr (k + 1) ss cs) hr (place-of k) (getD ss k 0)
         (step ∙ tell-cell ix 1 hr ps st ch cc ss cs (b .sums-length) (b .counts-length) ph k found low) ok (at-told ix hr ps st (k + 1) at gone ds ss cs b₂ over) less
 
@@ -178,11 +226,11 @@ module _ (gs : Gauges) (fine : gauges-fine gs ≡ true) (w : World) (i : ℕ) (l
     closes none less =
         let o : Open rs ts hr ps ss cs = b .holds in
         let known : Cursor-true rs ts (hr + 1) 0 =
-            hour-told rs ts (row-fine gs i fine) hr ps ss cs o over ch cc (b .cursor) (cells-none ix 1 hr ps st ch cc ss cs (b .sums-length) (b .counts-length) ph none) in
+        hour-told rs ts (row-fine gs i fine) hr ps ss cs o over ch cc (b .cursor) (cells-none ix 1 hr ps st ch cc ss cs (b .sums-length) (b .counts-length) ph none) in
         let es = set ds 2 (cursor-bytes (cursor (hr + 1) 0)) in
         let d₁ : Drawn rs ts gone (set ds 2 (cursor-bytes (cursor (hr + 1) 0))) = drawn-cursor rs ts gone ds (b .drawn) (hr + 1) 0 (b .hour-small) (lit< tt) known in
         let b₁ : Booted rs ts gone (set ds 2 (cursor-bytes (cursor (hr + 1) 0))) 1 hr ps st ch cc ss cs =
-            booted-drawers rs ts gone ds es 1 hr ps st ch cc ss cs b d₁ (kept-cursor rs ts gone ds (b .drawn) (hr + 1) 0 (b .hour-small) (lit< tt)) in
+        booted-drawers rs ts gone ds es 1 hr ps st ch cc ss cs b d₁ (kept-cursor rs ts gone ds (b .drawn) (hr + 1) 0 (b .hour-small) (lit< tt)) in
         keeps gs w i lt g M ev at gone ds is (mem 11 ix 1 hr ps st (hr + 1) 0 ss cs) 2 (cursor-bytes (cursor (hr + 1) 0))
         (step ∙ tell-close ix 1 hr ps st ch cc ss cs (b .sums-length) (b .counts-length) ph none (b .hour-small)) (lit< tt) (cursor-bytes-fit (hr + 1) 0)
         (at-closed ix hr ps st at gone es ss cs (with-cursor es b₁ (hr + 1) 0 known (b .hour-small) (lit< tt)) over) less
@@ -190,15 +238,26 @@ module _ (gs : Gauges) (fine : gauges-fine gs ≡ true) (w : World) (i : ℕ) (l
         with-cursor : (es : Drawers) → Booted rs ts gone es 1 hr ps st ch cc ss cs → (h c : ℕ) → Cursor-true rs ts h c → small h → small c →
             Booted rs ts gone es 1 hr ps st h c ss cs
         with-cursor es e h c known lh lc = record {
-            drawn = e .drawn; holds = e .holds; flag = e .flag; set = e .set; cursor = known; hour-small = e .hour-small; cursor-small = lh; cell-small = lc;
-            sums-length = e .sums-length; counts-length = e .counts-length; newer = e .newer; room = e .room }
+          drawn = e .drawn;
+          holds = e .holds;
+          flag = e .flag;
+          set = e .set;
+          cursor = known;
+          hour-small = e .hour-small;
+          cursor-small = lh;
+          cell-small = lc;
+          sums-length = e .sums-length;
+          counts-length = e .counts-length;
+          newer = e .newer;
+          room = e .room;
+        }
 
     -- one of the two, where the cells left and the cells told make the rank less
     tells-on : ((k : ℕ) → first-cell hr ch cc ≤ k → k < 1024 → 10000 * (length rs - ps) + (5001 + 2 * (1024 - (k + 1))) < rank (length rs) M (ev ∷ [])) →
         10000 * (length rs - ps) + 4000 < rank (length rs) M (ev ∷ []) → Next M ev
     tells-on less-cell less-close = ⊎-elim
         (λ (low : next-cell M < 1024). tells-cell (next-cell M) refl low
-            (less-cell (next-cell M) (cell-found ix 1 hr ps st ch cc ss cs (b .sums-length) (b .counts-length) ph (next-cell M) refl low .0) low))
+        (less-cell (next-cell M) (cell-found ix 1 hr ps st ch cc ss cs (b .sums-length) (b .counts-length) ph (next-cell M) refl low .0) low))
         (λ (high : 1024 ≤ next-cell M). closes high less-close)
         (cases-lt (next-cell M) 1024)
 
@@ -211,7 +270,7 @@ module _ (gs : Gauges) (fine : gauges-fine gs ≡ true) (w : World) (i : ℕ) (l
       keeps gs w i lt g _ next at gone ds is (mem 10 ix 1 hr ps st hr cc ss cs) 2 (cursor-bytes (cursor hr cc))
       (step-told ix 1 hr ps st hr cc ss cs (b .sums-length) (b .counts-length)) (lit< tt) (cursor-bytes-fit hr cc)
       (at-noted ix hr ps st cc at gone es ss cs
-          (booted-drawers rs ts gone ds es 1 hr ps st hr cc ss cs b d₁ (kept-cursor rs ts gone ds (b .drawn) hr cc (b .cursor-small) (b .cell-small))) over)
+      (booted-drawers rs ts gone ds es 1 hr ps st hr cc ss cs b d₁ (kept-cursor rs ts gone ds (b .drawn) hr cc (b .cursor-small) (b .cell-small))) over)
       (omega arith)
 
   -- THE HOUR IS DONE WITH: a blank root record
@@ -228,10 +287,21 @@ module _ (gs : Gauges) (fine : gauges-fine gs ≡ true) (w : World) (i : ℕ) (l
       keeps gs w i lt g _ next at gone ds is (mem 8 ix 0 hr ps 0 (hr + 1) 0 zero-table zero-table) 0 (root-bytes (root page-set.None 0 ps))
       (step-closed ix 1 hr ps st (hr + 1) 0 ss cs (b .sums-length) (b .counts-length)) (lit< tt) (root-bytes-fit page-set.None 0 ps)
       (at-rooted ix 0 hr ps 0 (hr + 1) 0 at gone es zero-table zero-table
-          (record {
-            drawn = d₁; holds = shut; flag = inl refl; set = sym (ap (λ r. set-number (r .set)) k); cursor = b .cursor; hour-small = b .hour-small; cursor-small = b .cursor-small;
-            cell-small = b .cell-small; sums-length = zeros; counts-length = zeros; newer = subst (λ n. n ≤ ps) (sym (ap (λ r. r .pos) k)) (omega arith); room = b .room })
-          (ap (λ r. r .pos) k))
+      (record {
+        drawn = d₁;
+        holds = shut;
+        flag = inl refl;
+        set = sym (ap (λ r. set-number (r .set)) k);
+        cursor = b .cursor;
+        hour-small = b .hour-small;
+        cursor-small = b .cursor-small;
+        cell-small = b .cell-small;
+        sums-length = zeros;
+        counts-length = zeros;
+        newer = subst (λ n. n ≤ ps) (sym (ap (λ r. r .pos) k)) (omega arith);
+        room = b .room;
+      })
+      (ap (λ r. r .pos) k))
       (omega arith)
 
   -- A CHECKPOINT
@@ -259,8 +329,8 @@ module _ (gs : Gauges) (fine : gauges-fine gs ≡ true) (w : World) (i : ℕ) (l
         keeps gs w i lt g _ ev ps gone ds is (mem 7 p 1 hr ps st ch cc ss cs) d (cut-bytes p ss cs) (step d (there .1)) (omega (arith, far))
         (page-bytes-fit p ss cs low (b .sums-length) (b .counts-length))
         (at-saved p hr ps st ch cc gone es ss cs
-            (booted-drawers rs ts gone ds es 1 hr ps st ch cc ss cs b (drawn-page rs ts gone ds (b .drawn) p d (cut-bytes p ss cs) (there .1)) (ap (λ k. k .root) same)) low
-            (subst (λ s. Pages-kept es (shadow-of s) ss cs (suc p)) (sym (ap (λ k. k .root .set) same)) more-kept))
+        (booted-drawers rs ts gone ds es 1 hr ps st ch cc ss cs b (drawn-page rs ts gone ds (b .drawn) p d (cut-bytes p ss cs) (there .1)) (ap (λ k. k .root) same)) low
+        (subst (λ s. Pages-kept es (shadow-of s) ss cs (suc p)) (sym (ap (λ k. k .root .set) same)) more-kept))
         less
 
     -- all pages are kept: the root record is the commit
@@ -276,20 +346,31 @@ module _ (gs : Gauges) (fine : gauges-fine gs ≡ true) (w : World) (i : ℕ) (l
         let d₁ : Drawn rs ts gone (set ds 0 (root-bytes (root shadow hr ps))) = drawn-root rs ts gone ds (b .drawn) hr ps ss cs (b .hour-small) ps-small behind (b .room) fit o all in
         let k : kept-of (set ds 0 (root-bytes (root shadow hr ps))) .root ≡ root shadow hr ps = kept-root rs ts gone ds (b .drawn) hr ps (b .hour-small) ps-small in
         let step : own .step (mem 7 p 1 hr ps st ch cc ss cs) next ≡ does (mem 8 p 1 hr ps (set-number shadow) ch cc ss cs) (keep 0 (root-bytes (root shadow hr ps))) =
-            step-saved-root p 1 hr ps st ch cc ss cs (b .sums-length) (b .counts-length) last
-            ∙ ap (λ s. does (mem 8 p 1 hr ps (set-number (shadow-of s)) ch cc ss cs) (keep 0 (root-bytes (root (shadow-of s) hr ps)))) named in
+        step-saved-root p 1 hr ps st ch cc ss cs (b .sums-length) (b .counts-length) last
+        ∙ ap (λ s. does (mem 8 p 1 hr ps (set-number (shadow-of s)) ch cc ss cs) (keep 0 (root-bytes (root (shadow-of s) hr ps)))) named in
         keeps gs w i lt g _ next ps gone ds is (mem 8 p 1 hr ps (set-number shadow) ch cc ss cs) 0 (root-bytes (root shadow hr ps)) step (lit< tt) (root-bytes-fit shadow hr ps)
         (at-rooted p 1 hr ps (set-number shadow) ch cc ps gone es ss cs
-            (record {
-              drawn = d₁; holds = o; flag = inr refl; set = sym (ap (λ r. set-number (r .set)) k); cursor = b .cursor; hour-small = b .hour-small; cursor-small = b .cursor-small;
-              cell-small = b .cell-small; sums-length = b .sums-length; counts-length = b .counts-length; newer = subst (λ n. n ≤ ps) (sym (ap (λ r. r .pos) k)) (omega arith); room = b .room })
-            (ap (λ r. r .pos) k))
+        (record {
+          drawn = d₁;
+          holds = o;
+          flag = inr refl;
+          set = sym (ap (λ r. set-number (r .set)) k);
+          cursor = b .cursor;
+          hour-small = b .hour-small;
+          cursor-small = b .cursor-small;
+          cell-small = b .cell-small;
+          sums-length = b .sums-length;
+          counts-length = b .counts-length;
+          newer = subst (λ n. n ≤ ps) (sym (ap (λ r. r .pos) k)) (omega arith);
+          room = b .room;
+        })
+        (ap (λ r. r .pos) k))
         (omega arith)
 
     saves-next : (p : ℕ) → Is (mem 7 p 1 hr ps st ch cc ss cs) next ps gone ds → p < pages → Pages-kept ds shadow ss cs (suc p) → Next (mem 7 p 1 hr ps st ch cc ss cs) next
     saves-next p is low kept = ⊎-elim
         (λ (another : p + 1 < 8). saves 7 p (p + 1) next is another (subst (λ n. Pages-kept ds shadow ss cs n) (sym (add-one p)) kept)
-            (λ d e. step-saved p 1 hr ps st ch cc ss cs (b .sums-length) (b .counts-length) d another (shadow-drawer (p + 1) d e)) (omega arith))
+        (λ d e. step-saved p 1 hr ps st ch cc ss cs (b .sums-length) (b .counts-length) d another (shadow-drawer (p + 1) d e)) (omega arith))
         (λ (last : 8 ≤ p + 1). commits p is low last kept)
         (cases-lt (p + 1) 8)
 
@@ -308,12 +389,12 @@ module _ (gs : Gauges) (fine : gauges-fine gs ≡ true) (w : World) (i : ℕ) (l
         let zero-tables = boot-law .blank ds none in
         let is-root : root-of (drawer-at ds 0) ≡ root page-set.None (K .root .hour) (K .root .pos) = root-there ∙ ap (λ s. root s (K .root .hour) (K .root .pos)) none in
         let shut : Holds rs ts 0 (K .root .hour) (K .root .pos) (K .sums) (K .counts) =
-            subst (λ s. Holds rs ts (set-number s) (K .root .hour) (K .root .pos) (K .sums) (K .counts)) none (d .holds) in
+        subst (λ s. Holds rs ts (set-number s) (K .root .hour) (K .root .pos) (K .sums) (K .counts)) none (d .holds) in
         let runs : Runs rs ts (mem 3 0 0 (K .root .hour) (K .root .pos) (set-number (K .root .set)) 0 0 (K .sums) (K .counts)) (slot (drawer-at ds 2) ∷ []) gone gone ds =
-            at-cursor 0 0 gone ds d (inl refl) shut in
+        at-cursor 0 0 gone ds d (inl refl) shut in
         let here : mem 3 0 0 (K .root .hour) (K .root .pos) (set-number (K .root .set)) 0 0 (K .sums) (K .counts) ≡
-            mem 3 0 0 (K .root .hour) (K .root .pos) 0 0 0 zero-table zero-table =
-            (λ n. mem 3 0 0 (K .root .hour) (K .root .pos) (set-number (none n)) 0 0 (zero-tables .0 n) (zero-tables .1 n)) in
+        mem 3 0 0 (K .root .hour) (K .root .pos) 0 0 0 zero-table zero-table =
+        (λ n. mem 3 0 0 (K .root .hour) (K .root .pos) (set-number (none n)) 0 0 (zero-tables .0 n) (zero-tables .1 n)) in
         recalls gs w i lt g _ _ gone gone ds is (mem 3 0 0 (K .root .hour) (K .root .pos) 0 0 0 zero-table zero-table) 2
         (step-root-none 0 0 0 0 0 0 0 zero-table zero-table zeros zeros (drawer-at ds 0) (K .root .hour) (K .root .pos) is-root (d .root-fits .hour) (d .root-fits .pos)) (lit< tt)
         (subst (λ m. Runs rs ts m (slot (drawer-at ds 2) ∷ []) gone gone ds) here runs) (omega arith)
@@ -331,7 +412,7 @@ module _ (gs : Gauges) (fine : gauges-fine gs ≡ true) (w : World) (i : ℕ) (l
         let far = page-apart (K .root .set) 0 (there .0) (there .1) in
         recalls gs w i lt g _ _ gone gone ds is (mem 2 0 1 (K .root .hour) (K .root .pos) (set-number (K .root .set)) 0 0 zero-table zero-table) (there .0)
         (step-root-some 0 0 0 0 0 0 0 zero-table zero-table zeros zeros (drawer-at ds 0) (K .root .set) (K .root .hour) (K .root .pos) (there .0) root-there
-            (number-some (K .root .set) some) (d .root-fits .hour) (d .root-fits .pos) (there .1))
+        (number-some (K .root .set) some) (d .root-fits .hour) (d .root-fits .pos) (there .1))
         (omega (arith, far)) (at-page 0 (there .0) gone ds zero-table zero-table d some (there .1) (boot-law .begun ds zero-table zero-table zeros zeros)) (omega arith)
 
     boots : Is (mem 1 0 0 0 0 0 0 0 zero-table zero-table) (slot (drawer-at ds 0)) gone gone ds → Next (mem 1 0 0 0 0 0 0 0 zero-table zero-table) (slot (drawer-at ds 0))
@@ -371,27 +452,27 @@ module _ (gs : Gauges) (fine : gauges-fine gs ≡ true) (w : World) (i : ℕ) (l
       reads-page : Is P (slot bs) gone gone ds → Next P (slot bs)
       reads-page is = ⊎-elim
           (λ (another : p + 1 < 8).
-              let there = page-has-drawer (K .root .set) (p + 1) some another in
-              let far = page-apart (K .root .set) (p + 1) (there .0) (there .1) in
-              recalls gs w i lt g P (slot bs) gone gone ds is
-                  (mem 2 (p + 1) 1 (K .root .hour) (K .root .pos) (set-number (K .root .set)) 0 0 (written ss (128 * p) (page-sums bs)) (written cs (128 * p) (page-counts bs))) (there .0)
-              (step-page p 1 (K .root .hour) (K .root .pos) (set-number (K .root .set)) 0 0 ss cs (back .sums-length) (back .counts-length) bs (there .0) low fit
-                  (drawer-named (p + 1) ∙ there .1))
-              (omega (arith, far))
-              (at-page (p + 1) (there .0) gone ds _ _ d some (there .1)
-                  (subst (λ n. Read-back ds n (written ss (128 * p) (page-sums bs)) (written cs (128 * p) (page-counts bs))) (sym (add-one p)) back₁)) (omega arith))
+          let there = page-has-drawer (K .root .set) (p + 1) some another in
+          let far = page-apart (K .root .set) (p + 1) (there .0) (there .1) in
+          recalls gs w i lt g P (slot bs) gone gone ds is
+          (mem 2 (p + 1) 1 (K .root .hour) (K .root .pos) (set-number (K .root .set)) 0 0 (written ss (128 * p) (page-sums bs)) (written cs (128 * p) (page-counts bs))) (there .0)
+          (step-page p 1 (K .root .hour) (K .root .pos) (set-number (K .root .set)) 0 0 ss cs (back .sums-length) (back .counts-length) bs (there .0) low fit
+          (drawer-named (p + 1) ∙ there .1))
+          (omega (arith, far))
+          (at-page (p + 1) (there .0) gone ds _ _ d some (there .1)
+          (subst (λ n. Read-back ds n (written ss (128 * p) (page-sums bs)) (written cs (128 * p) (page-counts bs))) (sym (add-one p)) back₁)) (omega arith))
           (λ (last : 8 ≤ p + 1).
-              let eight : suc p ≡ 8 = omega (arith, low) in
-              let whole = boot-law .done ds _ _ (subst (λ n. Read-back ds n (written ss (128 * p) (page-sums bs)) (written cs (128 * p) (page-counts bs))) eight back₁) in
-              let opened : Open rs ts (K .root .hour) (K .root .pos) (K .sums) (K .counts) = open-of rs ts (K .root .set) (K .root .hour) (K .root .pos) (K .sums) (K .counts) some (d .holds) in
-              recalls gs w i lt g P (slot bs) gone gone ds is
-                  (mem 3 p 1 (K .root .hour) (K .root .pos) (set-number (K .root .set)) 0 0 (written ss (128 * p) (page-sums bs)) (written cs (128 * p) (page-counts bs))) 2
-              (step-page-last p 1 (K .root .hour) (K .root .pos) (set-number (K .root .set)) 0 0 ss cs (back .sums-length) (back .counts-length) bs low fit
-                  (drawer-named (p + 1) ∙ no-page (K .root .set) (p + 1) last))
-              (lit< tt)
-              (subst (λ m. Runs rs ts m (slot (drawer-at ds 2) ∷ []) gone gone ds)
-                  (λ n. mem 3 p 1 (K .root .hour) (K .root .pos) (set-number (K .root .set)) 0 0 (sym (whole .0) n) (sym (whole .1) n)) (at-cursor p 1 gone ds d (inr refl) opened))
-              (omega arith))
+          let eight : suc p ≡ 8 = omega (arith, low) in
+          let whole = boot-law .done ds _ _ (subst (λ n. Read-back ds n (written ss (128 * p) (page-sums bs)) (written cs (128 * p) (page-counts bs))) eight back₁) in
+          let opened : Open rs ts (K .root .hour) (K .root .pos) (K .sums) (K .counts) = open-of rs ts (K .root .set) (K .root .hour) (K .root .pos) (K .sums) (K .counts) some (d .holds) in
+          recalls gs w i lt g P (slot bs) gone gone ds is
+          (mem 3 p 1 (K .root .hour) (K .root .pos) (set-number (K .root .set)) 0 0 (written ss (128 * p) (page-sums bs)) (written cs (128 * p) (page-counts bs))) 2
+          (step-page-last p 1 (K .root .hour) (K .root .pos) (set-number (K .root .set)) 0 0 ss cs (back .sums-length) (back .counts-length) bs low fit
+          (drawer-named (p + 1) ∙ no-page (K .root .set) (p + 1) last))
+          (lit< tt)
+          (subst (λ m. Runs rs ts m (slot (drawer-at ds 2) ∷ []) gone gone ds)
+          (λ n. mem 3 p 1 (K .root .hour) (K .root .pos) (set-number (K .root .set)) 0 0 (sym (whole .0) n) (sym (whole .1) n)) (at-cursor p 1 gone ds d (inr refl) opened))
+          (omega arith))
           (cases-lt (p + 1) 8)
         where
           no-page : (s : PageSet) (q : ℕ) → 8 ≤ q → page-drawer s q ≡ None
@@ -408,13 +489,24 @@ module _ (gs : Gauges) (fine : gauges-fine gs ≡ true) (w : World) (i : ℕ) (l
         let few : bg ≤ 1 = at-most-one bg flag in
         froms gs w i lt g _ _ gone gone ds is (mem 4 ix bg (K .root .hour) (K .root .pos) (set-number (K .root .set)) (K .cursor .hour) (K .cursor .cell) (K .sums) (K .counts)) (K .root .pos)
         (step-cursor ix bg (K .root .hour) (K .root .pos) (set-number (K .root .set)) 0 0 (K .sums) (K .counts) (lengths .0) (lengths .1) (drawer-at ds 2) (K .cursor .hour) (K .cursor .cell)
-            (sym (boot-law .cursor ds)) (d .cursor-fits .hour) (d .cursor-fits .cell))
+        (sym (boot-law .cursor ds)) (d .cursor-fits .hour) (d .cursor-fits .cell))
         (d .low) (d .high)
         (at-placed ix bg (K .root .hour) (K .root .pos) (set-number (K .root .set)) (K .cursor .hour) (K .cursor .cell) gone ds (K .sums) (K .counts)
-            (record {
-              drawn = d; holds = holds; flag = flag; set = refl; cursor = d .cursor; hour-small = d .hour-small; cursor-small = d .cursor-fits .hour; cell-small = d .cursor-fits .cell;
-              sums-length = lengths .0; counts-length = lengths .1; newer = omega arith; room = d .high })
-            refl)
+        (record {
+          drawn = d;
+          holds = holds;
+          flag = flag;
+          set = refl;
+          cursor = d .cursor;
+          hour-small = d .hour-small;
+          cursor-small = d .cursor-fits .hour;
+          cell-small = d .cursor-fits .cell;
+          sums-length = lengths .0;
+          counts-length = lengths .1;
+          newer = omega arith;
+          room = d .high;
+        })
+        refl)
         (omega arith)
 
   module _ (known : core gs ≡ true) where
@@ -431,7 +523,7 @@ module _ (gs : Gauges) (fine : gauges-fine gs ≡ true) (w : World) (i : ℕ) (l
         let s : Shut rs ts ps ss cs = b .holds in
         let fresh : (j : ℕ) → j < ps → j < length rs → hour-at rs j ≡ hour-at rs ps → ⊥ = λ j jp jl e. omega (arith, s .apart j ps jp (omega arith) in-row) in
         let t : Tables-of rs ps (hour-at rs ps) ss cs = subst (λ x. Tables-of rs ps (hour-at rs ps) x cs) (sym (s .sums))
-            (subst (λ x. Tables-of rs ps (hour-at rs ps) zero-table x) (sym (s .counts)) (tables-zeros rs ps (hour-at rs ps) fresh)) in
+        (subst (λ x. Tables-of rs ps (hour-at rs ps) zero-table x) (sym (s .counts)) (tables-zeros rs ps (hour-at rs ps) fresh)) in
         let ok = entry-fits rs ps (hour-at rs ps) ss cs (f .readings) (f .few) in-row t refl in
         takes ix 0 hr ps st ch cc ss cs gone ds b in-row room is (inl refl) ok
         (subst (λ e. Open rs ts (hour-at rs ps) (ps + 1) (with-sum ss e) (with-count cs e)) ok (open-first rs ts f ps ss cs in-row s))
@@ -441,15 +533,15 @@ module _ (gs : Gauges) (fine : gauges-fine gs ≡ true) (w : World) (i : ℕ) (l
         let fit = fits-at rs ps (f .readings) in-row in
         ⊎-elim
         (λ (same : hour-at rs ps ≡ hr).
-            let ok = entry-fits rs ps hr ss cs (f .readings) (f .few) in-row (o .tables) same in
-            takes ix 1 hr ps st ch cc ss cs gone ds b in-row room is (inr same) ok
-            (subst (λ e. Open rs ts (hour-at rs ps) (ps + 1) (with-sum ss e) (with-count cs e)) ok
-            (subst (λ c. Open rs ts c (ps + 1) (with-sum ss (entry-of ss cs (next-reading rs ps))) (with-count cs (entry-of ss cs (next-reading rs ps)))) (sym same)
-            (open-next rs ts f ps ss cs in-row hr o same))))
+        let ok = entry-fits rs ps hr ss cs (f .readings) (f .few) in-row (o .tables) same in
+        takes ix 1 hr ps st ch cc ss cs gone ds b in-row room is (inr same) ok
+        (subst (λ e. Open rs ts (hour-at rs ps) (ps + 1) (with-sum ss e) (with-count cs e)) ok
+        (subst (λ c. Open rs ts c (ps + 1) (with-sum ss (entry-of ss cs (next-reading rs ps))) (with-count cs (entry-of ss cs (next-reading rs ps)))) (sym same)
+        (open-next rs ts f ps ss cs in-row hr o same))))
         (λ (other : hour-at rs ps ≡ hr → ⊥).
-            tells-on 6 ix hr ps st ch cc ss cs _ (suc ps) gone ds is b (over-other rs ts f hr ps ss cs o in-row other)
-            (step-over ix 1 hr ps st ch cc ss cs (b .sums-length) (b .counts-length) _ _ _ (fit .time) (fit .key) (fit .value) (λ z. omega arith) other) (all-here (omega arith))
-            (λ k le low. omega arith) (omega arith))
+        tells-on 6 ix hr ps st ch cc ss cs _ (suc ps) gone ds is b (over-other rs ts f hr ps ss cs o in-row other)
+        (step-over ix 1 hr ps st ch cc ss cs (b .sums-length) (b .counts-length) _ _ _ (fit .time) (fit .key) (fit .value) (λ z. omega arith) other) (all-here (omega arith))
+        (λ k le low. omega arith) (omega arith))
         (cases-eq (hour-at rs ps) hr)
     hears ix (suc (suc n)) hr ps st ch cc gone ds ss cs b in-row room is = absurd (omega (arith, at-most-one (suc (suc n)) (b .flag)))
 
@@ -460,7 +552,7 @@ module _ (gs : Gauges) (fine : gauges-fine gs ≡ true) (w : World) (i : ℕ) (l
         let e : gone ≡ ps = fresh refl in
         rests-now gs w i lt g _ ends ps gone ds is (mem 12 ix 0 hr ps st ch cc ss cs) (step-ends-shut ix 0 hr ps st ch cc ss cs (b .sums-length) (b .counts-length) refl)
         (subst (λ n. Runs rs ts (mem 12 ix 0 hr ps st ch cc ss cs) [] ps n ds) (sym e)
-            (at-done [] ix hr ps st ch cc ps ds ss cs (subst (λ n. Booted rs ts n ds 0 hr ps st ch cc ss cs) e b) end (inl refl)))
+        (at-done [] ix hr ps st ch cc ps ds ss cs (subst (λ n. Booted rs ts n ds 0 hr ps st ch cc ss cs) e b) end (inl refl)))
         (omega arith)
     finishes ix (suc zero) hr ps st ch cc gone ds ss cs b fresh end is =
         let o : Open rs ts hr ps ss cs = b .holds in
@@ -495,7 +587,7 @@ module _ (gs : Gauges) (fine : gauges-fine gs ≡ true) (w : World) (i : ℕ) (l
         let m = mem 12 ix 0 hr ps st ch cc ss cs in
         subst (λ l. Stepped gs (one-step own gs w i l) i (rank (length rs) (mem 12 ix 0 hr ps st ch cc ss cs) l)) e
         (rests-now gs w i lt g m next at ps ds (is ∙ ap (λ l. machine m l at ps ds) (sym e)) m (step-done ix 0 hr ps st ch cc ss cs (b .sums-length) (b .counts-length))
-            (at-done [] ix hr ps st ch cc at ds ss cs b end (inl refl)) (omega arith))
+        (at-done [] ix hr ps st ch cc at ds ss cs b end (inl refl)) (omega arith))
 
     none-and-some : {A B : Type 0} (x : A) (xs : List A) → x ∷ xs ≡ [] → B
     none-and-some x xs e = let z : _≡_ {A = ℕ} 0 1 = cc in absurd (omega arith)

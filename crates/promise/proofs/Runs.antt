@@ -96,19 +96,32 @@ module _ (rs : List Reading) (ts : List Told-sum) where
 module _ (rs : List Reading) (ts new : List Told-sum) where
   pub drawn-more : (gone : ℕ) (ds : Drawers) → Drawn rs ts gone ds → Drawn rs (ts ++ new) gone ds
   drawn-more gone ds d = record {
-      size = d .size; low = d .low; high = d .high; root-fits = d .root-fits; hour-small = d .hour-small; cursor-fits = d .cursor-fits;
-      holds = holds-more rs ts new _ _ _ _ _ (d .holds);
-      all-pages = d .all-pages;
-      cursor = cursor-more rs ts new _ _ (d .cursor) }
+    size = d .size;
+    low = d .low;
+    high = d .high;
+    root-fits = d .root-fits;
+    hour-small = d .hour-small;
+    cursor-fits = d .cursor-fits;
+    holds = holds-more rs ts new _ _ _ _ _ (d .holds);
+    all-pages = d .all-pages;
+    cursor = cursor-more rs ts new _ _ (d .cursor);
+  }
 
   pub booted-more : (gone : ℕ) (ds : Drawers) (bg hr ps st ch cc : ℕ) (ss cs : List ℕ) → Booted rs ts gone ds bg hr ps st ch cc ss cs → Booted rs (ts ++ new) gone ds bg hr ps st ch cc ss cs
   booted-more gone ds bg hr ps st ch cc ss cs b = record {
-      drawn = drawn-more gone ds (b .drawn);
-      holds = holds-more rs ts new bg hr ps ss cs (b .holds);
-      flag = b .flag; set = b .set;
-      cursor = cursor-more rs ts new ch cc (b .cursor);
-      hour-small = b .hour-small; cursor-small = b .cursor-small; cell-small = b .cell-small;
-      sums-length = b .sums-length; counts-length = b .counts-length; newer = b .newer; room = b .room }
+    drawn = drawn-more gone ds (b .drawn);
+    holds = holds-more rs ts new bg hr ps ss cs (b .holds);
+    flag = b .flag;
+    set = b .set;
+    cursor = cursor-more rs ts new ch cc (b .cursor);
+    hour-small = b .hour-small;
+    cursor-small = b .cursor-small;
+    cell-small = b .cell-small;
+    sums-length = b .sums-length;
+    counts-length = b .counts-length;
+    newer = b .newer;
+    room = b .room;
+  }
 
   pub runs-more : (m : List ℕ) (evs : List Event) (at gone : ℕ) (ds : Drawers) → Runs rs ts m evs at gone ds → Runs rs (ts ++ new) m evs at gone ds
   runs-more _ _ _ _ _ (waking i gone ds d) = waking i gone ds (drawn-more gone ds d)

@@ -39,16 +39,24 @@ module _ (gs : Gauges) where
   -- one machine is set
   pub put-good : (w : World) (i : ℕ) → i < 8 → Good w → (x : Machine) → Machine-runs (nth-row gs i) (w .told) x → Good (with-machine w i x)
   put-good w i lt g x r = record {
-      fault = g .fault; wires = g .wires; eight = length-set-nth (w .machines) i x ∙ g .eight; right = g .right;
-      each = λ j l. at-set-all (w .machines) i j x (Machine-runs (nth-row gs j) (w .told)) (λ e. subst (λ n. Machine-runs (nth-row gs n) (w .told) x) e r) (g .each j l) }
+    fault = g .fault;
+    wires = g .wires;
+    eight = length-set-nth (w .machines) i x ∙ g .eight;
+    right = g .right;
+    each = λ j l. at-set-all (w .machines) i j x (Machine-runs (nth-row gs j) (w .told)) (λ e. subst (λ n. Machine-runs (nth-row gs n) (w .told) x) e r) (g .each j l);
+  }
 
   -- one machine is set, and a row is told
   pub tell-good : (w : World) (i : ℕ) → i < 8 → Good w → (x : Machine) (t : Told-sum) → is-right gs t ≡ true → Machine-runs (nth-row gs i) (w .told ++ t ∷ []) x →
       Good (with-told w i x t)
   tell-good w i lt g x t ok r = record {
-      fault = g .fault; wires = g .wires; eight = length-set-nth (w .machines) i x ∙ g .eight; right = every-last (is-right gs) (w .told) t (g .right) ok;
-      each = λ j l. at-set-all (w .machines) i j x (Machine-runs (nth-row gs j) (w .told ++ t ∷ [])) (λ e. subst (λ n. Machine-runs (nth-row gs n) (w .told ++ t ∷ []) x) e r)
-          (runs-more (nth-row gs j) (w .told) (t ∷ []) _ _ _ _ _ (g .each j l)) }
+    fault = g .fault;
+    wires = g .wires;
+    eight = length-set-nth (w .machines) i x ∙ g .eight;
+    right = every-last (is-right gs) (w .told) t (g .right) ok;
+    each = λ j l. at-set-all (w .machines) i j x (Machine-runs (nth-row gs j) (w .told ++ t ∷ [])) (λ e. subst (λ n. Machine-runs (nth-row gs n) (w .told ++ t ∷ []) x) e r)
+        (runs-more (nth-row gs j) (w .told) (t ∷ []) _ _ _ _ _ (g .each j l));
+  }
 
 -- drawers by the definitions' own ways to look into a list
 row-is : (ds : Drawers) (d : ℕ) → nth-row ds d ≡ drawer-at ds d
@@ -77,8 +85,9 @@ module _ (gs : Gauges) (w : World) (i : ℕ) (lt : i < 8) (g : Good gs w) (m : L
 
   set-next : (x : Machine) → Machine-runs Row (w .told) x → rank (length Row) (x .memory) (x .pending) < rank (length Row) m (ev ∷ []) → Next (with-machine w i x)
   set-next x r l = record {
-      good = put-good gs w i lt g x r;
-      less = subst (λ y. rank (length Row) (y .memory) (y .pending) < rank (length Row) m (ev ∷ [])) (sym (here-set x)) l }
+    good = put-good gs w i lt g x r;
+    less = subst (λ y. rank (length Row) (y .memory) (y .pending) < rank (length Row) m (ev ∷ [])) (sym (here-set x)) l;
+  }
 
   module _ (m₁ : List ℕ) (a : Act) (step : own .step m ev ≡ does m₁ a) where
     acts : (P : World → Type 0) → P (acted gs w i m₁ a) → P (one-step own gs w i (ev ∷ []))
@@ -128,24 +137,25 @@ module _ (gs : Gauges) (w : World) (i : ℕ) (lt : i < 8) (g : Good gs w) (m : L
         acts m₁ (tells h k s) step Next (on-tells gs w i m₁ Next h k s
         (subst (λ (x : Machine). Next (with-told w i (machine m₁ (next ∷ []) (x .reads-at) (x .gone) (x .slots)) (record { hour = h; place = k; sum = s }))) (sym is)
         (record {
-            good = tell-good gs w i lt g (machine m₁ (next ∷ []) at gone ds) t ok r;
-            less = subst (λ (y : Machine). rank (length Row) (y .memory) (y .pending) < rank (length Row) m (ev ∷ [])) (sym (here-set (machine m₁ (next ∷ []) at gone ds))) l })))
+          good = tell-good gs w i lt g (machine m₁ (next ∷ []) at gone ds) t ok r;
+          less = subst (λ (y : Machine). rank (length Row) (y .memory) (y .pending) < rank (length Row) m (ev ∷ [])) (sym (here-set (machine m₁ (next ∷ []) at gone ds))) l;
+        })))
 
     pub asks-more : own .step m ev ≡ does m₁ more →
         (length Row ≤ at → Runs Row (w .told) m₁ (ends ∷ []) at gone ds × (rank (length Row) m₁ (ends ∷ []) < rank (length Row) m (ev ∷ []))) →
         (at < length Row → at < gone + 4096 →
-            Runs Row (w .told) m₁ (comes (getD Row at no-reading .time) (getD Row at no-reading .key) (getD Row at no-reading .value) ∷ []) (suc at) gone ds
-            × (rank (length Row) m₁ (comes 0 0 0 ∷ []) < rank (length Row) m (ev ∷ []))) →
+        Runs Row (w .told) m₁ (comes (getD Row at no-reading .time) (getD Row at no-reading .key) (getD Row at no-reading .value) ∷ []) (suc at) gone ds
+        × (rank (length Row) m₁ (comes 0 0 0 ∷ []) < rank (length Row) m (ev ∷ []))) →
         (at < length Row → gone + 4096 ≤ at → Runs Row (w .told) m₁ (later ∷ []) at gone ds × (rank (length Row) m₁ (later ∷ []) < rank (length Row) m (ev ∷ []))) →
         Next (one-step own gs w i (ev ∷ []))
     asks-more step a b c = acts m₁ more step Next (on-more gs w i m₁ Next
         (λ h. subst (λ (x : Machine). Next (with-machine w i (machine m₁ (ends ∷ []) (x .reads-at) (x .gone) (x .slots)))) (sym is)
-            (let r = a (subst (λ (x : Machine). length Row ≤ x .reads-at) is h) in set-next (machine m₁ (ends ∷ []) at gone ds) (r .0) (r .1)))
+        (let r = a (subst (λ (x : Machine). length Row ≤ x .reads-at) is h) in set-next (machine m₁ (ends ∷ []) at gone ds) (r .0) (r .1)))
         (λ h k. subst (λ (x : Machine). Next (with-machine w i (machine m₁ (first-reading (drop (x .reads-at) Row) ∷ []) (suc (x .reads-at)) (x .gone) (x .slots)))) (sym is)
-            (let low : at < length Row = subst (λ (x : Machine). x .reads-at < length Row) is h in
-             let r = b low (subst (λ (x : Machine). x .reads-at < x .gone + 4096) is k) in
-             reading-at Row at (λ e. Next (with-machine w i (machine m₁ (e ∷ []) (suc at) gone ds))) low
-             (set-next (machine m₁ (comes (getD Row at no-reading .time) (getD Row at no-reading .key) (getD Row at no-reading .value) ∷ []) (suc at) gone ds) (r .0) (r .1))))
+        (let low : at < length Row = subst (λ (x : Machine). x .reads-at < length Row) is h in
+        let r = b low (subst (λ (x : Machine). x .reads-at < x .gone + 4096) is k) in
+        reading-at Row at (λ e. Next (with-machine w i (machine m₁ (e ∷ []) (suc at) gone ds))) low
+        (set-next (machine m₁ (comes (getD Row at no-reading .time) (getD Row at no-reading .key) (getD Row at no-reading .value) ∷ []) (suc at) gone ds) (r .0) (r .1))))
         (λ h k. subst (λ (x : Machine). Next (with-machine w i (machine m₁ (later ∷ []) (x .reads-at) (x .gone) (x .slots)))) (sym is)
-            (let r = c (subst (λ (x : Machine). x .reads-at < length Row) is h) (subst (λ (x : Machine). x .gone + 4096 ≤ x .reads-at) is k) in
-             set-next (machine m₁ (later ∷ []) at gone ds) (r .0) (r .1))))
+        (let r = c (subst (λ (x : Machine). x .reads-at < length Row) is h) (subst (λ (x : Machine). x .gone + 4096 ≤ x .reads-at) is k) in
+        set-next (machine m₁ (later ∷ []) at gone ds) (r .0) (r .1))))

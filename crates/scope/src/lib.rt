@@ -60,15 +60,17 @@ mod tests {
     #[test]
     fn two_gauges_are_refused(rt: LibcRuntime) -> Result<(), Fail> {
         let heap = rt.alloc();
-        let river = parse(heap, "gauge 0\n10 1 4\n50 2 1\n130 1 7\ngauge 1\n90 1 3\n210 1 2")?;
+        let river = parse(
+            heap,
+            "gauge 0\n10 1 4\n50 2 1\n130 1 7\ngauge 1\n90 1 3\n210 1 2",
+        )?;
         let Err(other) = first_alone(river.gauges.as_slice()) else {
             return Err(Fail::new("two gauges are let through"));
         };
         check_eq(other.number, 1)?;
         let said = format!(heap, "{other}")?;
         check(
-            said.as_str()
-                == "gauge 1 has readings, and only those of gauge 0 are added up so far",
+            said.as_str() == "gauge 1 has readings, and only those of gauge 0 are added up so far",
         )
     }
 
