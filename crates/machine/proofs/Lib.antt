@@ -1,2 +1,3 @@
 pub mod Stepped
 pub mod Back
+pub mod Steadies

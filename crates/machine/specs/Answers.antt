@@ -1,11 +1,10 @@
--- The code's enums of events and acts, each case by its meaning among the definitions, and what handlers answer and leave.
+-- The code's enums, each case by its meaning among the definitions: events, and acts as they are told outside.
 use mathlib.Core.Path.{_≡_}
 use mathlib.Core.Bool.{true, false}
-use mathlib.Core.List.{List, [], _∷_, _++_}
+use mathlib.Core.List.{List, _∷_}
 use Prim.Native.Nat.{ℕ, _+_, _*_, _/_, _%_}
 use lib.Dec.{leb}
-use lib.ListN.{length, drop, take, getD}
-use denote.Ref.{now}
+use lib.ListN.{drop, take, getD}
 use Rattle.std.specs.declared.option.Option.{Option}
 use Rattle.std.specs.declared.option.Option.the-variants.{Some, None}
 use Rattle.machine.specs.Run as run
@@ -13,8 +12,8 @@ use Rattle.machine.specs.Run.{wakes, comes, later, ends, letter, slot, next, m
 use Rattle.machine.specs.Entry.{event-of}
 use Rattle.machine.specs.declared.Told.{Told}
 use Rattle.machine.specs.declared.Told.the-variants as told
-use Rattle.machine.specs.declared.Act.{Act}
-use Rattle.machine.specs.declared.Act.the-variants as act
+use Rattle.gauge.specs.declared.act.Act.{Act}
+use Rattle.gauge.specs.declared.act.Act.the-variants as act
 use Rattle.machine.specs.declared.Event.{Event}
 use Rattle.machine.specs.declared.Event.the-variants as event
 
@@ -32,32 +31,6 @@ as-event event.Next = next
 abbrev pub Event-says : (kind a b c : ℕ) (bytes : List ℕ) → Option Event → Type 0
 Event-says kind a b c bytes None = leb kind 6 ≡ false
 Event-says kind a b c bytes (Some e) = (leb kind 6 ≡ true) × (as-event e ≡ event-of kind a b c bytes)
-
--- an act by the code's enum: what is sent or kept stands in the buffer, here by its length
-abbrev pub act-of : run.Act → Act
-act-of more = act.More
-act-of (from p) = act.From p
-act-of (let-go p) = act.LetGo p
-act-of (sends j b) = act.Sends j (length b)
-act-of (keep s b) = act.Keep s (length b)
-act-of (recall s) = act.Recall s
-act-of (tells h k s) = act.Tells h k s
-act-of rests = act.Rests
-
--- the buffer after an act
-abbrev pub out-after : run.Act → List ℕ → List ℕ
-out-after more out = out
-out-after (from p) out = out
-out-after (let-go p) out = out
-out-after (sends j b) out = b ++ drop (length b) out
-out-after (keep s b) out = b ++ drop (length b) out
-out-after (recall s) out = out
-out-after (tells h k s) out = out
-out-after rests out = out
-
--- what a handler leaves and answers: memory, act and buffer are those of a step of the definitions
-abbrev pub Did : run.Step → Act → (memory₁ out out₁ : List ℕ) → Type 0
-Did s a memory₁ out out₁ = (memory₁ ≡ s .memory) × (a ≡ act-of (s .act)) × (out₁ ≡ out-after (s .act) out)
 
 -- an act as it is told outside, by one number and a row of three
 abbrev pub told-of : Act → Told

@@ -4,15 +4,17 @@ use mathlib.Core.Bool.{Bool, true, false, _&&_}
 use mathlib.Core.List.{List, [], _∷_, _++_}
 use Prim.Native.Nat.{ℕ, _+_, _*_}
 use lib.Dec.{eqb, leb}
-use lib.ListN.{length, drop}
+use lib.ListN.{length, drop, replicate}
 use Rattle.sums.specs.Sums.{pick}
+use Rattle.gauge.specs.Memory.{cells}
+use Rattle.machine.specs.Machine.{machine-step}
 use Rattle.machine.specs.Run.{Engine, Event, wakes, comes, later, ends, letter, slot, next, Act, more, from, let-go, sends, keep, recall, tells, rests, Step}
 use Rattle.machine.specs.declared.Told.{Told}
 use Rattle.machine.specs.declared.Told.the-variants.{More, From, LetGo, Sends, Keep, Recall, Tells, Rests, No}
 
--- THE MACHINE ITSELF, the same eight times. This one does nothing yet.
+-- THE MACHINE ITSELF, the same eight times.
 unfoldable pub own : Engine
-own = record { start = []; step = λ m ev. record { memory = m; act = rests } }
+own = record { start = replicate cells 0; step = machine-step }
 
 -- 0 wakes, 1 a reading, 2 later, 3 ends, 4 a letter from a, 5 a slot, 6 go on
 unfoldable pub event-of : ℕ → ℕ → ℕ → ℕ → List ℕ → Event

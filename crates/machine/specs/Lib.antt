@@ -1,3 +1,5 @@
 pub mod Run
+pub mod Boot
+pub mod Machine
 pub mod Entry
 pub mod Answers

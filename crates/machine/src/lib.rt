@@ -2,8 +2,24 @@
 ghost use mathlib.Core.Path.{_≡_};
 ghost use lib.ListN.{length};
 ghost use Prim.Native.Nat.{_≤_};
-ghost use Rattle.machine.specs.Answers.{Event-says, as-event, Did, told-of, row-after};
-ghost use Rattle.machine.specs.Entry.{own, Step-says, step-fits};
+ghost use Rattle.gauge.specs.Deeds.{Did};
+ghost use Rattle.gauge.specs.Memory.{cells};
+ghost use Rattle.machine.specs.Answers.{Event-says, as-event, told-of, row-after};
+ghost use Rattle.machine.specs.Entry.{Step-says, step-fits};
+ghost use Rattle.machine.specs.Machine.{reacts};
+use boot::recall;
+use boot::wake;
+use gauge::Phase;
+use gauge::accumulate;
+use gauge::end;
+use gauge::fill;
+use gauge::go_on;
+use gauge::memory::CELLS;
+use gauge::memory::PHASE;
+
+mod boot;
+
+pub use gauge::Act;
 
 #[derive(Clone, Copy)]
 pub enum Event<'a> {
@@ -20,24 +36,6 @@ pub enum Event<'a> {
     // What is in the drawer that was asked for.
     Slot(&'a [u8]),
     Next,
-}
-
-#[derive(Clone, Copy)]
-pub enum Act {
-    // The next reading.
-    More,
-    // Readings are to come from this place of the row on.
-    From(u64),
-    // Readings before this place are released.
-    LetGo(u64),
-    // To a machine, so many bytes of the buffer.
-    Sends(u8, u16),
-    // Into a drawer, so many bytes of the buffer.
-    Keep(u8, u16),
-    Recall(u64),
-    // Hour, place, sum.
-    Tells(u64, u64, u64),
-    Rests,
 }
 
 // An act as it is told to the caller: what does not fit in one number stands in the lent row and buffer.
@@ -57,7 +55,7 @@ pub enum Told {
 }
 
 // How many numbers the memory has.
-pub const MEMORY: usize = 0;
+pub const MEMORY: usize = CELLS;
 // How many machines there are, each with its gauge.
 pub const MACHINES: u64 = 8;
 // How many drawers a machine has.
@@ -89,38 +87,44 @@ impl Event<'_> {
     }
 }
 
-impl Act {
-    // Writes the act for the caller: hour, place and sum into the row, drawer and length into one number.
-    fn tell(self, row: &mut [u64]) -> Told
-        requires { ⌜ 3 ≤ length (now row) ⌝ }
-        ensures told { λ r. ⌜ r ≡ told-of self ⌝ }
-        ensures row { λ _. ⌜ now (row .exit) ≡ row-after self (now (row .entry)) ⌝ }
-    {
-        match self {
-            Act::More => Told::More,
-            Act::From(p) => Told::From(p),
-            Act::LetGo(p) => Told::LetGo(p),
-            Act::Sends(to, len) => Told::Sends(LENGTHS * u64::from(to) + u64::from(len)),
-            Act::Keep(drawer, len) => Told::Keep(LENGTHS * u64::from(drawer) + u64::from(len)),
-            Act::Recall(drawer) => Told::Recall(drawer),
-            Act::Tells(hour, place, sum) => {
-                row[0] = hour;
-                row[1] = place;
-                row[2] = sum;
-                Told::Tells(place)
-            }
-            Act::Rests => Told::Rests,
+// Writes an act for the caller: hour, place and sum into the row, drawer and length into one number.
+fn tell(act: Act, row: &mut [u64]) -> Told
+    requires { ⌜ 3 ≤ length (now row) ⌝ }
+    ensures told { λ r. ⌜ r ≡ told-of act ⌝ }
+    ensures row { λ _. ⌜ now (row .exit) ≡ row-after act (now (row .entry)) ⌝ }
+{
+    match act {
+        Act::More => Told::More,
+        Act::From(p) => Told::From(p),
+        Act::LetGo(p) => Told::LetGo(p),
+        Act::Sends(to, len) => Told::Sends(LENGTHS * u64::from(to) + u64::from(len)),
+        Act::Keep(drawer, len) => Told::Keep(LENGTHS * u64::from(drawer) + u64::from(len)),
+        Act::Recall(drawer) => Told::Recall(drawer),
+        Act::Tells(hour, place, sum) => {
+            row[0] = hour;
+            row[1] = place;
+            row[2] = sum;
+            Told::Tells(place)
         }
+        Act::Rests => Told::Rests,
     }
 }
 
-// What the machine does when it is told of an event.
+// What the machine does when it is told of an event. One that cannot come in its phase changes nothing.
 fn react(memory: &mut [u64], event: Event<'_>, out: &mut [u8]) -> Act
-    ensures { λ r. ⌜ Did (own .step (now (memory .entry)) (as-event (event .entry))) r (now (memory .exit)) (now (out .entry)) (now (out .exit)) ⌝ }
+    requires { ⌜ length (now memory) ≡ cells ⌝ }
+    requires { ⌜ 4096 ≤ length (now out) ⌝ }
+    ensures { λ r. ⌜ Did (reacts (now (memory .entry)) (as-event (event .entry))) r (now (memory .exit)) (now (out .entry)) (now (out .exit)) ⌝ }
 {
+    let reading = memory[PHASE] == Phase::Reading.number();
     match event {
-        Event::Wakes(_) | Event::Comes(_, _, _) | Event::Later | Event::Ends => Act::Rests,
-        Event::Letter(_, _) | Event::Slot(_) | Event::Next => Act::Rests,
+        Event::Wakes(_) => wake(memory),
+        Event::Comes(time, place, value) if reading => accumulate(memory, time, place, value, out),
+        Event::Later if reading => fill(memory, out),
+        Event::Ends if reading => end(memory, out),
+        Event::Slot(bytes) => recall(memory, bytes),
+        Event::Next => go_on(memory, out),
+        _ => Act::Rests,
     }
 }
 
@@ -143,6 +147,5 @@ pub fn step(
     let Some(event) = Event::read(kind, a, b, c, bytes) else {
         return Told::No(0);
     };
-    let act = react(memory, event, out);
-    act.tell(row)
+    tell(react(memory, event, out), row)
 }

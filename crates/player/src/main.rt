@@ -9,6 +9,10 @@ use rows::RowDisplay;
 use rows::WallErrorDebug;
 use rows::WallErrorDisplay;
 use rows::WallErrorError;
+use scope::OtherGauge;
+use scope::OtherGaugeDebug;
+use scope::OtherGaugeDisplay;
+use scope::OtherGaugeError;
 use std::env;
 use std::error::AnyError;
 use std::fmt;
@@ -28,6 +32,7 @@ fn run(rt: &LibcRuntime) -> Result<(), AnyError> {
     let heap = rt.alloc();
     let text = read(rt)?;
     let river = river::parse(heap, text.as_str())?;
+    scope::first_alone(river.gauges.as_slice())?;
     let world = play(rt, &river)?;
     let told = world.told.as_slice();
     let comparison = rows::compare(heap, river.gauges.as_slice(), told)?;

@@ -2,7 +2,15 @@ pub mod Rows
 pub mod Induction
 pub mod Machines
 pub mod Acts
+pub mod Views
+pub mod Knows
+pub mod Runs
+pub mod Ranks
+pub mod Drawing
+pub mod Turns
+pub mod Phases
 pub mod Start
 pub mod Others
 pub mod Calm
 pub mod Laws
+pub mod Core

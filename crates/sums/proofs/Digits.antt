@@ -43,6 +43,21 @@ value-zeros [] zero = refl
 value-zeros [] (suc k) = omega (arith, value-zeros [] k)
 value-zeros (b ∷ bs) k = ap (λ m. b + 256 * m) (value-zeros bs k)
 
+-- bytes write a number that fits in as many
+pub value-fits : (bs : List ℕ) → ((i : ℕ) → getD bs i 0 < 256) → value bs < 256 ^ length bs
+unfolding value
+value-fits [] low = lit< tt
+value-fits (b ∷ bs) low =
+    let first : b < 256 = low zero in
+    let rest : value bs < 256 ^ length bs = value-fits bs (λ i. low (suc i)) in
+    rw pow-suc (omega arith)
+
+pub take-low : (n : ℕ) (bs : List ℕ) → ((i : ℕ) → getD bs i 0 < 256) → (i : ℕ) → getD (take n bs) i 0 < 256
+take-low zero bs low i = lit< tt
+take-low (suc n) [] low i = lit< tt
+take-low (suc n) (b ∷ bs) low zero = low zero
+take-low (suc n) (b ∷ bs) low (suc i) = take-low n bs (λ j. low (suc j)) i
+
 -- eight bytes, as the machine's own numbers have them
 pub digits-eight : (n : ℕ) →
     n % 256 ∷ n / 256 % 256 ∷ n / 65536 % 256 ∷ n / 16777216 % 256 ∷ n / 4294967296 % 256 ∷ n / 1099511627776 % 256 ∷ n / 281474976710656 % 256

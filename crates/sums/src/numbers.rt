@@ -1,10 +1,12 @@
 // Numbers as bytes, the lowest first, and rows of numbers of one width.
+ghost use mathlib.Core.Bool.{true};
 ghost use mathlib.Core.Path.{_≡_};
 ghost use Prim.Native.Nat.{_*_, _≤_};
 ghost use lib.ListN.{length, take, drop};
 ghost use Rattle.std.specs.Options.{mapped};
-ghost use Rattle.sums.specs.Digits.{widest, digits, value, row-numbers};
+ghost use Rattle.sums.specs.Digits.{widest, digits, value, fits, row-numbers};
 ghost use Rattle.sums.specs.Numbers.{Number-says, row-answer, row-over, row-written};
+ghost use Rattle.sums.specs.Sums.{every};
 
 // No number has more bytes.
 pub const WIDEST: usize = 8;
@@ -31,6 +33,7 @@ fn number_and_rest(bytes: &[u8], width: usize) -> (u64, &[u8])
     requires wide { ⌜ width ≤ widest ⌝ }
     requires long { ⌜ width ≤ length (now bytes) ⌝ }
     ensures number { λ r. ⌜ r .0 ≡ value (take width (now (bytes .entry))) ⌝ }
+    ensures small { λ r. ⌜ fits width (r .0) ≡ true ⌝ }
     ensures rest { λ r. ⌜ now (r .1) ≡ drop width (now (bytes .entry)) ⌝ }
 {
     let (front, rest) = bytes.split_at(width);
@@ -44,6 +47,7 @@ pub(crate) fn take_row<'a>(bytes: &'a [u8], width: usize, numbers: &mut [u64]) -
     requires wide { ⌜ width ≤ widest ⌝ }
     requires long { ⌜ width * length (now numbers) ≤ length (now bytes) ⌝ }
     ensures numbers { λ _. ⌜ now (numbers .exit) ≡ row-numbers width (length (now (numbers .entry))) (now (bytes .entry)) ⌝ }
+    ensures small { λ _. ⌜ every (fits width) (now (numbers .exit)) ≡ true ⌝ }
     ensures rest { λ r. ⌜ now r ≡ drop (width * length (now (numbers .entry))) (now (bytes .entry)) ⌝ }
 {
     let mut rest = bytes;

@@ -12,4 +12,4 @@ returns-in-rest c = refused _ _ _ _ _ _ _ _ (λ f. both-ways _ (c .in-rest .ensu
 
 pub returns : need.returns
 returns c = stepped _ _ _ _ _ _ _ _ _ _ _ _ _ _ (omega arith, c .in-Some .ensures tt .0, omega arith, omega arith, omega arith)
-    (c .in-Some .ensures tt .1) (c .react-act .ensures) (c .tell .ensures .told) (c .tell .ensures .row)
+    (c .in-Some .ensures tt .1) (c .react .ensures) (c .tell .ensures .told) (c .tell .ensures .row)

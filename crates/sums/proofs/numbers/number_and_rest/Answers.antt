@@ -1,11 +1,12 @@
-use mathlib.Core.Path.{_≡_, sym, ap, _∙_}
+use mathlib.Core.Path.{_≡_, sym, ap, subst, _∙_}
 use mathlib.Core.List.{List, _++_}
-use Prim.Native.Nat.{ℕ, _-_}
+use Prim.Native.Nat.{ℕ, _-_, _^_, _<_}
 use native.Mathlib.Omega.{arith}
 use lib.ListN.{length, take, drop, replicate, length-append, length-replicate}
 use Rattle.std.proofs.shelf.Lists.{length-take-le, drop-replicate}
+use Rattle.std.proofs.shelf.Tests.{lt-ltb}
 use Rattle.sums.specs.Digits.{value}
-use Rattle.sums.proofs.Digits.{value-eight, value-zeros}
+use Rattle.sums.proofs.Digits.{value-eight, value-zeros, value-fits, take-low}
 use Rattle.sums.proofs.numbers.number_and_rest.Needs as need
 
 pub returns : need.returns
@@ -21,4 +22,6 @@ returns c =
     let zeros : List ℕ = replicate (8 - w) 0 in
     let z : length zeros ≡ 8 - w = length-replicate (8 - w) 0 in
     let eight : length low ≡ 8 = ap length e ∙ length-append front zeros ∙ omega arith in
-    record { number = c .from-le-bytes .ensures ∙ sym (value-eight low eight) ∙ ap value e ∙ value-zeros front (8 - w); rest = c .split-at .ensures .back }
+    let number = c .from-le-bytes .ensures ∙ sym (value-eight low eight) ∙ ap value e ∙ value-zeros front (8 - w) in
+    let room : value front < 256 ^ w = subst (λ k. value front < 256 ^ k) n (value-fits front (take-low w (c .args .bytes .now) (λ i. omega (arith, c .typed .bytes i)))) in
+    record { number = number; small = lt-ltb _ _ (subst (λ v. v < 256 ^ w) (sym number) room); rest = c .split-at .ensures .back }

@@ -1,11 +1,16 @@
-use mathlib.Core.Path.{_≡_, sym, ap, _∙_}
+use mathlib.Core.Path.{_≡_, refl, sym, ap, subst, _∙_}
+use mathlib.Core.Bool.{true}
 use mathlib.Core.List.{List, [], _∷_, _++_, append-assoc, append-nil}
 use Prim.Native.Nat.{ℕ, suc, _+_, _-_, _*_, _<_}
 use native.Mathlib.Nat.{mul-add}
 use native.Mathlib.Omega.{arith}
+use borrow.Author.Needs.{needs}
 use lib.ListN.{length, set, take, drop, length-drop}
 use Rattle.std.proofs.shelf.Lists.{drop-drop, take-all, take-more-set}
-use Rattle.sums.specs.Digits.{value, row-numbers}
+use Rattle.std.proofs.shelf.Tests.{and-from}
+use Rattle.sums.specs.Digits.{value, fits, row-numbers}
+use Rattle.sums.specs.Sums.{every}
+use Rattle.sums.proofs.Digits.{every-append}
 use Rattle.sums.proofs.Overwrites.{part-fits-in}
 use Rattle.sums.proofs.numbers.take_row.Needs as need
 
@@ -28,6 +33,16 @@ row-step w n i xs bs rest behind x lt less number drops e =
     ∙ sym (append-assoc (take i xs) (x ∷ []) (row-numbers w (n - (i + 1)) behind))
     ∙ ap (λ l. l ++ row-numbers w (n - (i + 1)) behind) (sym (take-more-set xs i x lt))
 
+fit-step : (w i : ℕ) (xs : List ℕ) (x : ℕ) → i < length xs → every (fits w) (take i xs) ≡ true → fits w x ≡ true →
+    every (fits w) (take (i + 1) (set xs i x)) ≡ true
+unfolding every
+fit-step w i xs x lt before here =
+    ap (every (fits w)) (take-more-set xs i x lt) ∙ every-append (fits w) (take i xs) (x ∷ []) before (and-from (fits w x) true here refl)
+
+pub loop-number-holds : need.loop-number-holds
+unfolding every
+loop-number-holds c = (search needs, search needs, refl)
+
 pub loop-number-again : need.loop-number-again
 loop-number-again c =
     let w = c .args .width in
@@ -38,6 +53,7 @@ loop-number-again c =
       e .rest ∙ ap (drop w) (c .loop-number .inv .0) ∙ drop-drop w (w * i) bs ∙ ap (λ k. drop k bs) next,
       row-step w (length (c .args .numbers .now)) i (c .loop-number .numbers) bs (c .loop-number .rest .now) (c .number-and-rest-first .result .1 .now)
           (c .number-and-rest-first .result .0) (omega arith) (omega arith) (e .number) (e .rest) (c .loop-number .inv .1),
+      fit-step w i (c .loop-number .numbers) (c .number-and-rest-first .result .0) (omega arith) (c .loop-number .inv .2) (e .small),
     )
 
 pub returns : need.returns
@@ -49,12 +65,14 @@ returns c =
     let bs = c .args .bytes .now in
     let all : i ≡ n = omega arith in
     let none : n - i ≡ 0 = omega arith in
+    let whole : take i (c .loop-number .numbers) ≡ c .loop-number .numbers = take-all i (c .loop-number .numbers) (omega arith) in
     record {
       numbers =
           sym
           (c .loop-number .inv .1
           ∙ ap (λ k. take i (c .loop-number .numbers) ++ row-numbers w k (c .loop-number .rest .now)) none
           ∙ append-nil (take i (c .loop-number .numbers))
-          ∙ take-all i (c .loop-number .numbers) (omega arith));
+          ∙ whole);
+      small = subst (λ l. every (fits w) l ≡ true) whole (c .loop-number .inv .2);
       rest = c .loop-number .inv .0 ∙ ap (λ k. drop (w * k) bs) all;
     }

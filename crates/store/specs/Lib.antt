@@ -1,0 +1,4 @@
+pub mod Records
+pub mod Drawers
+pub mod Kept
+pub mod Laws
