@@ -27,7 +27,7 @@ use Rattle.promise.proofs.Acts.{on-poked}
 use Rattle.promise.proofs.Calm.{Rests, All-rest, round-rests, delivered-none}
 use Rattle.promise.proofs.Induction.{Keeps, all-good, calm-good}
 use Rattle.promise.proofs.Knows.{hour-at, place-at, Is-told, Shut, Cursor-true, Holds}
-use Rattle.promise.proofs.Machines.{past-at}
+use Rattle.promise.proofs.Machines.{past-at, set-past, none-and-some}
 use Rattle.promise.proofs.Phases.{steps-well}
 use Rattle.promise.proofs.Ranks.{rank}
 use Rattle.promise.proofs.Rows.{row-fine, first-is-all, none-nil}
@@ -89,12 +89,6 @@ module _ (rs : List Reading) (ts : List Told-sum) where
         (λ j lt w. ⊎-elim (λ (l : hour-at rs j < 0). absurd (omega arith)) (λ l. absurd (omega (arith, l .1))) w);
   }
 
-set-past : (ms : List Machine) (i : ℕ) (x : Machine) → length ms ≤ i → set-nth ms i x ≡ ms
-unfolding set-nth
-set-past [] i x h = refl
-set-past (m ∷ ms) zero x h = absurd (omega arith)
-set-past (m ∷ ms) (suc i) x h = ap (λ l. m ∷ l) (set-past ms i x (omega arith))
-
 so-many : (n : ℕ) → so-many-of {A = List ℕ} n [] ≡ replicate n []
 unfolding so-many-of
 so-many zero = refl
@@ -111,9 +105,6 @@ module _ (gs : Gauges) (fine : gauges-fine gs ≡ true) (known : core gs ≡ tru
       (λ (lt : i < 8). put-good gs w i lt g x (r lt))
       (λ (ge : 8 ≤ i). subst (λ ms. Good gs (record { machines = ms; wires = w .wires; told = w .told; fault = w .fault })) (sym (set-past (w .machines) i x (omega (arith, g .eight)))) g)
       (cases-lt i 8)
-
-  none-and-some : {A B : Type 0} (x : A) (xs : List A) → x ∷ xs ≡ [] → B
-  none-and-some x xs e = let z : _≡_ {A = ℕ} 0 1 = cc in absurd (omega arith)
 
   -- a step of one of the eight
   stepped : (w : World) (i : ℕ) → i < 8 → Good gs w → (ev : Event) (evs : List Event) → machine-at (w .machines) i .pending ≡ ev ∷ evs →

@@ -12,6 +12,15 @@ length-set-nth [] i x = refl
 length-set-nth (y ∷ ys) zero x = refl
 length-set-nth (y ∷ ys) (suc i) x = ap suc (length-set-nth ys i x)
 
+pub set-past : {A : Type 0} (xs : List A) (i : ℕ) (x : A) → length xs ≤ i → set-nth xs i x ≡ xs
+unfolding set-nth
+set-past [] i x h = refl
+set-past (y ∷ xs) zero x h = absurd (omega arith)
+set-past (y ∷ xs) (suc i) x h = ap (λ l. y ∷ l) (set-past xs i x (omega arith))
+
+pub none-and-some : {A B : Type 0} (x : A) (xs : List A) → x ∷ xs ≡ [] → B
+none-and-some x xs e = let z : _≡_ {A = ℕ} 0 1 = cc in absurd (omega arith)
+
 pub at-set-same : (ms : List Machine) (i : ℕ) (x : Machine) → i < length ms → machine-at (set-nth ms i x) i ≡ x
 unfolding set-nth machine-at
 at-set-same [] i x h = absurd (omega arith)

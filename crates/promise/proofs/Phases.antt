@@ -39,6 +39,7 @@ use Rattle.promise.specs.Promise.{core}
 use Rattle.promise.proofs.Knows.{hour-at, Holds, Cursor-true, Over, Shut, Open, cell-right, cell-told, hour-told, open-first, open-next, over-end, over-other, shut-after}
 use Rattle.promise.proofs.Drawing.{drawn-cursor, kept-cursor, drawn-page, kept-page, drawn-root, kept-root, drawn-blank, kept-blank, booted-drawers, tables-fit}
 use Rattle.promise.proofs.Drawing.{cursor-bytes-fit, root-bytes-fit, page-bytes-fit, page-there, set-named-back, open-of}
+use Rattle.promise.proofs.Machines.{none-and-some}
 use Rattle.promise.proofs.Ranks.{rank}
 use Rattle.promise.proofs.Rows.{Fine, row-fine, fits-at, row-is-all}
 use Rattle.promise.proofs.Runs.{Drawn, Booted, Runs, waking, at-root, at-page, at-cursor, at-rooted, at-placed, at-released, at-comes, at-ends, at-later, at-saved, at-told, at-noted, at-closed, at-done, small, booted-more}
@@ -588,9 +589,6 @@ module _ (gs : Gauges) (fine : gauges-fine gs ≡ true) (w : World) (i : ℕ) (l
         subst (λ l. Stepped gs (one-step own gs w i l) i (rank (length rs) (mem 12 ix 0 hr ps st ch cc ss cs) l)) e
         (rests-now gs w i lt g m next at ps ds (is ∙ ap (λ l. machine m l at ps ds) (sym e)) m (step-done ix 0 hr ps st ch cc ss cs (b .sums-length) (b .counts-length))
         (at-done [] ix hr ps st ch cc at ds ss cs b end (inl refl)) (omega arith))
-
-    none-and-some : {A B : Type 0} (x : A) (xs : List A) → x ∷ xs ≡ [] → B
-    none-and-some x xs e = let z : _≡_ {A = ℕ} 0 1 = cc in absurd (omega arith)
 
     -- every step
     pub steps-well : (m : List ℕ) (ev : Event) (evs : List Event) (at gone : ℕ) (ds : Drawers) → machine-at (w .machines) i ≡ machine m (ev ∷ evs) at gone ds → Runs rs ts m (ev ∷ evs) at gone ds →

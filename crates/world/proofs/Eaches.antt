@@ -32,12 +32,6 @@ reading-at (r ∷ rs) zero d lt = refl
 reading-at (r ∷ rs) (suc i) d lt = reading-at rs i d (omega arith)
 
 -- past the end
-pub set-past : {A : Type 0} (xs : List A) (i : ℕ) (x : A) → length xs ≤ i → set-nth xs i x ≡ xs
-unfolding set-nth
-set-past [] i x h = refl
-set-past (y ∷ xs) zero x h = absurd (omega arith)
-set-past (y ∷ xs) (suc i) x h = ap (λ l. y ∷ l) (set-past xs i x (omega arith))
-
 pub row-past : {A : Type 0} (xs : List (List A)) (i : ℕ) → length xs ≤ i → nth-row xs i ≡ []
 unfolding nth-row
 row-past [] i h = refl

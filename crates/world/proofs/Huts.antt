@@ -14,7 +14,8 @@ use Rattle.machine.specs.Run.{machine, machine-at, set-nth, with-machine, next,
 use Rattle.world.specs.Played.{as-machine, told-next}
 use Rattle.world.specs.declared.hut.Hut.{Hut}
 use Rattle.sums.proofs.Eaches.{length-each}
-use Rattle.world.proofs.Eaches.{each-set-nth, set-past}
+use Rattle.promise.proofs.Machines.{set-past}
+use Rattle.world.proofs.Eaches.{each-set-nth}
 
 machine-is : (hs : List Hut) (i : ℕ) (d : Hut) → i < length hs → machine-at (each as-machine hs) i ≡ as-machine (getD hs i d)
 unfolding each machine-at

@@ -22,7 +22,7 @@ use Rattle.world.specs.Played.{as-machine, told-next, Step-done}
 use Rattle.world.specs.Worlds.{Acted, Went}
 use Rattle.world.specs.declared.hut.Hut.{Hut}
 use Rattle.world.specs.declared.hut.Desk.{Desk}
-use Rattle.world.proofs.Eaches.{set-past}
+use Rattle.promise.proofs.Machines.{set-past}
 use Rattle.world.proofs.Huts.{huts-world, machine-past}
 use Rattle.world.proofs.Posting.{none-rest}
 

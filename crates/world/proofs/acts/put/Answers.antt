@@ -6,7 +6,8 @@ use Rattle.std.specs.Of.Vec.{vec-items}
 use Rattle.sums.specs.Sums.{each}
 use Rattle.world.specs.Played.{as-text}
 use Rattle.sums.proofs.Eaches.{length-each}
-use Rattle.world.proofs.Eaches.{each-set-nth, set-past}
+use Rattle.promise.proofs.Machines.{set-past}
+use Rattle.world.proofs.Eaches.{each-set-nth}
 use Rattle.world.proofs.acts.put.Needs as need
 
 pub returns-then-at-len : need.returns-then-at-len

@@ -10,7 +10,8 @@ use Rattle.machine.specs.Entry.{own}
 use Rattle.machine.specs.Run.{set-nth, machine, machine-at, wakes}
 use Rattle.world.specs.Played.{as-machine}
 use Rattle.world.specs.Worlds.{as-world}
-use Rattle.world.proofs.Eaches.{each-set-nth, set-past}
+use Rattle.promise.proofs.Machines.{set-past}
+use Rattle.world.proofs.Eaches.{each-set-nth}
 use Rattle.world.proofs.Huts.{hut-at}
 use Rattle.world.proofs.world.World.fall.Needs as need
 
