@@ -86,10 +86,9 @@ fn shadow(memory: &[u64]) -> PageSet
     requires { ⌜ length (now memory) ≡ cells ⌝ }
     ensures { λ r. ⌜ r ≡ shadow-in (now (memory .entry)) ⌝ }
 {
-    match PageSet::from_number(memory[SET]) {
-        Some(set) => set.shadow(),
-        None => PageSet::None.shadow(),
-    }
+    PageSet::from_number(memory[SET])
+        .unwrap_or(PageSet::None)
+        .shadow()
 }
 
 // The hour is done with: its tables are cleared, and a root record that names no pages is kept.

@@ -20,17 +20,12 @@ use sums::cells::SLOTS;
 use sums::pages::PAGE_BYTES;
 use sums::pages::encode_page;
 
-// How long a root record is.
-const ROOT_BYTES: u16 = 24;
-// How long a cursor is.
-const CURSOR_BYTES: u16 = 16;
-
 pub(crate) fn keep_root(root: Root, out: &mut [u8]) -> Act
     requires { ⌜ 4096 ≤ length (now out) ⌝ }
     ensures { λ r. ⌜ Kept (keep root-drawer (root-bytes root)) r (now (out .entry)) (now (out .exit)) ⌝ }
 {
     root.encode(out).unwrap();
-    Act::Keep(root_drawer(), ROOT_BYTES)
+    Act::Keep(root_drawer(), Root::BYTES as u16)
 }
 
 pub(crate) fn keep_cursor(cursor: Cursor, out: &mut [u8]) -> Act
@@ -38,7 +33,7 @@ pub(crate) fn keep_cursor(cursor: Cursor, out: &mut [u8]) -> Act
     ensures { λ r. ⌜ Kept (keep cursor-drawer (cursor-bytes cursor)) r (now (out .entry)) (now (out .exit)) ⌝ }
 {
     cursor.encode(out).unwrap();
-    Act::Keep(cursor_drawer(), CURSOR_BYTES)
+    Act::Keep(cursor_drawer(), Cursor::BYTES as u16)
 }
 
 // A page of the tables in memory, into this drawer.

@@ -109,10 +109,7 @@ fn recall_page(memory: &mut [u64], bytes: &[u8]) -> Act
 fn named_set(number: u64) -> PageSet
     ensures { λ r. ⌜ r ≡ set-named number ⌝ }
 {
-    match PageSet::from_number(number) {
-        Some(set) => set,
-        None => PageSet::None,
-    }
+    PageSet::from_number(number).unwrap_or(PageSet::None)
 }
 
 // Reads a page into its part of the tables.
