@@ -1,5 +1,5 @@
 -- A step keeps the memory's length, and its numbers below 2^64.
-use mathlib.Core.Path.{_≡_, refl, ap, sym, _∙_}
+use mathlib.Core.Path.{_≡_, refl, _∙_}
 use mathlib.Core.Bool.{Bool, true, false, cond, _&&_}
 use mathlib.Core.List.{List, [], _∷_, _++_}
 use Prim.Native.Nat.{ℕ, zero, suc, _+_, _*_, _-_, _/_, _^_, _≤_, _<_}
@@ -22,7 +22,7 @@ use Rattle.sums.specs.declared.tables.Entry.{Entry}
 use Rattle.sums.specs.declared.tables.TableError.{TableError}
 use Rattle.sums.specs.declared.tables.TableError.the-variants.{TableLength}
 use Rattle.sums.proofs.Columns.{length-sums, length-counts}
-use Rattle.sums.proofs.Digits.{every-append}
+use Rattle.sums.proofs.Everys.{every-append, every-set, every-weaker}
 use Rattle.sums.proofs.Overwrites.{length-written}
 use Rattle.store.specs.Drawers.{page-drawer}
 use Rattle.store.specs.Records.{root-of, cursor-of, set-number}
@@ -32,22 +32,16 @@ use Rattle.store.specs.declared.records.PageSet.the-variants as page-set
 use Rattle.store.specs.declared.records.Root.{Root}
 use Rattle.gauge.specs.Memory.{cells, sums-at, counts-at, phase-in, index-in, begun-in, hour-in, pos-in, set-in, sums-in, counts-in, placed, released, reading, saved, rooted, told, noted, closed, asks-root, asks-page, asks-cursor}
 use Rattle.gauge.specs.Deeds.{Done}
-use Rattle.gauge.specs.Gauge.{next-cell, cell-told, hour-closed, tell-next, cleared, hour-ended, accumulated, heard, ended, page-saved-in, page-saved, shadow-in, set-named, root-saved, filled, save-next, placed-at, went-on}
+use Rattle.gauge.specs.Gauge.{next-cell, cell-told, hour-closed, tell-next, cleared, accumulated, heard, ended, page-saved-in, page-saved, shadow-in, set-named, root-saved, filled, save-next, went-on}
 use Rattle.machine.specs.Boot.{woken, root-read, page-asked-in, root-recalled, page-read, page-fits, page-recalled, cursor-recalled, recalled}
 use Rattle.machine.specs.Machine.{reacts, as-step, machine-step}
-use Rattle.machine.specs.Run.{Event, wakes, comes, later, ends, letter, slot, next, Step, rests, Steady, all-small}
+use Rattle.machine.specs.Run.{Event, wakes, comes, later, ends, letter, slot, next, rests, Steady, all-small}
 use Rattle.machine.specs.Entry.{own}
 
 abbrev limit : ℕ
 limit = 18446744073709551616
 
 module _ {A : Type 0} (f : A → Bool) where
-  every-set : (l : List A) (i : ℕ) (x : A) → every f l ≡ true → f x ≡ true → every f (set l i x) ≡ true
-  unfolding every
-  every-set [] i x a h = refl
-  every-set (y ∷ ys) zero x a h = and-from _ _ h (and-parts (f y) _ a .1)
-  every-set (y ∷ ys) (suc i) x a h = let p = and-parts (f y) _ a in and-from _ _ (p .0) (every-set ys i x (p .1) h)
-
   every-take : (n : ℕ) (l : List A) → every f l ≡ true → every f (take n l) ≡ true
   unfolding every
   every-take zero l a = refl
@@ -64,11 +58,6 @@ module _ {A : Type 0} (f : A → Bool) where
   unfolding every
   every-replicate zero x h = refl
   every-replicate (suc n) x h = and-from _ _ h (every-replicate n x h)
-
-  every-weaker : (g : A → Bool) → ((x : A) → f x ≡ true → g x ≡ true) → (l : List A) → every f l ≡ true → every g l ≡ true
-  unfolding every
-  every-weaker g w [] a = refl
-  every-weaker g w (x ∷ l) a = let p = and-parts (f x) _ a in and-from _ _ (w x (p .0)) (every-weaker g w l (p .1))
 
 -- a number of a memory of small ones
 at : (m : List ℕ) (i : ℕ) → all-small m ≡ true → getD m i 0 < limit

@@ -1,5 +1,5 @@
 -- What one machine does leaves the others as they are; and what each of a row establishes and keeps holds of all in the end. For any engine.
-use mathlib.Core.Path.{_≡_, refl, sym, subst, _∙_}
+use mathlib.Core.Path.{_≡_, refl, sym, _∙_}
 use mathlib.Core.List.{List, [], _∷_, _++_}
 use mathlib.Core.Logic.{⊎-elim}
 use Prim.Native.Nat.{ℕ, zero, suc, _≤_, _<_}
@@ -54,26 +54,3 @@ module _ (f : World → ℕ → World) (Inv : World → Type 0) (Q : ℕ → Wor
 
   pub by-each-eight : (w : World) → Inv w → (j : ℕ) → j < 8 → Q j (by-each f w (up-to 8))
   by-each-eight w v j lt = by-each-all 8 (omega arith) w v j lt
-
--- what holds till the turn of one, and what holds from then on
-module _ (f : World → ℕ → World) (j : ℕ) (A B : World → Type 0)
-    (before : (w : World) (i : ℕ) → (i ≡ j → ⊥) → A w → A (f w i))
-    (turn : (w : World) → A w → B (f w j))
-    (later-on : (w : World) (i : ℕ) → (i ≡ j → ⊥) → B w → B (f w i)) where
-  by-each-turn : (n : ℕ) (w : World) → A w → (j < n → B (by-each f w (up-to n))) × (n ≤ j → A (by-each f w (up-to n)))
-  unfolding by-each up-to
-  by-each-turn zero w a = (λ lt. absurd (omega arith), λ _. a)
-  by-each-turn (suc n) w a = rw (by-each-append f w (up-to n) (n ∷ [])) (go (by-each-turn n w a))
-    where
-      go : ((j < n → B (by-each f w (up-to n))) × (n ≤ j → A (by-each f w (up-to n)))) →
-          (j < suc n → B (f (by-each f w (up-to n)) n)) × (suc n ≤ j → A (f (by-each f w (up-to n)) n))
-      go ih = (
-        λ lt. ⊎-elim
-            (λ e. subst (λ m. B (f (by-each f w (up-to n)) m)) e (turn _ (ih .1 (omega arith))))
-            (λ ne. later-on _ n (λ q. ne (sym q)) (ih .0 (omega arith)))
-            (cases-eq j n),
-        λ le. before _ n (λ q. omega arith) (ih .1 (omega arith)),
-      )
-
-  pub by-each-once : j < 8 → (w : World) → A w → B (by-each f w (up-to 8))
-  by-each-once lt w a = by-each-turn 8 w a .0 lt

@@ -9,6 +9,7 @@ use lib.ListN.{length, getD, take, drop}
 use Rattle.std.proofs.shelf.Tests.{ltb-true, leb-true, and-parts, and-from}
 use Rattle.sums.specs.Parts.{no-reading}
 use Rattle.sums.specs.Sums.{or, every, any, none-of, all-of, Gauges, Reading, rising, a-reading, gauges-fine}
+use Rattle.sums.proofs.Everys.{or-true}
 use Rattle.machine.specs.Run.{Event, comes, first-reading, nth-row}
 use Rattle.promise.specs.Promise.{others-empty}
 
@@ -16,10 +17,6 @@ pub none-nil : {A : Type 0} (xs : List A) → none-of xs ≡ true → xs ≡ []
 unfolding none-of
 none-nil [] h = refl
 none-nil (x ∷ xs) h = cc
-
-or-true : (b : Bool) → or b true ≡ true
-or-true true = refl
-or-true false = refl
 
 module _ {A : Type 0} (f : A → Bool) where
   pub any-front : (xs ys : List A) → any f xs ≡ true → any f (xs ++ ys) ≡ true
@@ -42,11 +39,6 @@ module _ {A : Type 0} (f : A → Bool) where
   any-at (x ∷ xs) zero d lt h = rw h
   any-at (x ∷ xs) (suc i) d lt h = rw (any-at xs i d (omega arith) h) (or-true (f x))
 
-  pub every-last : (xs : List A) (x : A) → every f xs ≡ true → f x ≡ true → every f (xs ++ x ∷ []) ≡ true
-  unfolding every
-  every-last [] x h q = rw q
-  every-last (y ∷ xs) x h q = and-from _ _ (and-parts _ _ h .0) (every-last xs x (and-parts (f y) _ h .1) q)
-
   pub every-more : (xs : List A) (i : ℕ) (d : A) → i < length xs → every f (take i xs) ≡ true → f (getD xs i d) ≡ true → every f (take (suc i) xs) ≡ true
   unfolding every
   every-more [] i d lt h q = refl
@@ -58,11 +50,6 @@ module _ {A : Type 0} (f : A → Bool) where
   every-at [] i d lt h = absurd (omega arith)
   every-at (x ∷ xs) zero d lt h = and-parts _ _ h .0
   every-at (x ∷ xs) (suc i) d lt h = every-at xs i d (omega arith) (and-parts (f x) _ h .1)
-
-  pub every-weaker : (g : A → Bool) → ((x : A) → f x ≡ true → g x ≡ true) → (xs : List A) → every f xs ≡ true → every g xs ≡ true
-  unfolding every
-  every-weaker g k [] h = refl
-  every-weaker g k (x ∷ xs) h = and-from _ _ (k x (and-parts _ _ h .0)) (every-weaker g k xs (and-parts (f x) _ h .1))
 
 -- what fine gauges say of a row
 pub record Fine (row : List Reading) : Type 0 where

@@ -10,10 +10,11 @@ use Rattle.sums.specs.Sums.{Reading, Gauges, Told-sum, every, is-right}
 use Rattle.store.specs.Drawers.{Drawers, drawer-at}
 use Rattle.machine.specs.Run.{World, Machine, machine, machine-at, set-nth, nth-row, with-machine, Event, comes, later, ends, slot, next, Act, more, from, let-go, keep, recall, tells, rests, bytes, acted, one-step, first-reading}
 use Rattle.machine.specs.Entry.{own}
-use Rattle.promise.proofs.Acts.{on-more, on-from, on-let-go, on-keep, on-recall, on-tells, on-rests, with-event, with-told, state}
+use Rattle.promise.proofs.Acts.{on-more, on-from, on-let-go, on-keep, on-recall, on-tells, on-rests, with-told}
 use Rattle.promise.proofs.Machines.{at-set-same, at-set-all, length-set-nth}
 use Rattle.promise.proofs.Ranks.{rank}
-use Rattle.promise.proofs.Rows.{every-last, reading-at}
+use Rattle.sums.proofs.Everys.{every-last}
+use Rattle.promise.proofs.Rows.{reading-at}
 use Rattle.promise.proofs.Runs.{Runs, runs-more}
 use Rattle.promise.proofs.Views.{does}
 

@@ -1,18 +1,19 @@
 -- The columns that a drawer stands for: their lengths, and those of a page.
-use mathlib.Core.Path.{_≡_, refl, ap, _∙_}
+use mathlib.Core.Path.{_≡_, ap, _∙_}
 use mathlib.Core.Bool.{Bool, true, cond}
-use mathlib.Core.List.{List, [], _∷_}
-use Prim.Native.Nat.{ℕ, suc, _+_, _*_, _^_, _<_}
+use mathlib.Core.List.{List, []}
+use Prim.Native.Nat.{ℕ, _+_, _*_, _^_, _<_}
 use native.Mathlib.Omega.{arith}
 use lib.ListN.{length, getD, drop, replicate, length-replicate, length-drop}
 use Rattle.std.specs.Results.{isOk}
 use Rattle.std.proofs.shelf.Lists.{getD-take, getD-drop, length-take-le}
-use Rattle.std.proofs.shelf.Tests.{and-from, eq-eqb, lt-ltb, cond-both}
+use Rattle.std.proofs.shelf.Tests.{eq-eqb, lt-ltb, cond-both}
 use Rattle.sums.specs.Cells.{places, pages, slots}
 use Rattle.sums.specs.Digits.{fits}
 use Rattle.sums.specs.Pages.{sum-width, count-width, page-length, page-bytes, page-sums, page-counts, decode-answer}
 use Rattle.sums.specs.Sums.{every}
 use Rattle.sums.proofs.Columns.{length-page, sums-back, counts-back, length-sums, length-counts}
+use Rattle.sums.proofs.Everys.{every-places}
 use Rattle.store.specs.Kept.{sums-in, counts-in, page-cut}
 
 -- a column that is read, or zeros
@@ -46,11 +47,6 @@ module _ (ss cs : List ℕ) (ls : length ss ≡ slots) (lc : length cs ≡ slots
   pub counts-in-back : every (fits count-width) cs ≡ true → counts-in (page-bytes ss cs) ≡ cs
   counts-in-back all = counts-in-page (page-bytes ss cs) (length-page ss cs ls lc) ∙ counts-back ss cs ls lc all
 
-every-from : (f : ℕ → Bool) (xs : List ℕ) → ((i : ℕ) → i < length xs → f (getD xs i 0) ≡ true) → every f xs ≡ true
-unfolding every
-every-from f [] all = refl
-every-from f (x ∷ xs) all = and-from _ _ (all 0 (omega arith)) (every-from f xs (λ i lt. all (suc i) (omega arith)))
-
 module _ (p : ℕ) (xs : List ℕ) (len : length xs ≡ places) (lt : p < pages) where
   pub length-cut : length (page-cut p xs) ≡ slots
   length-cut = length-take-le slots (drop (slots * p) xs) (simp length-drop (omega arith))
@@ -58,7 +54,7 @@ module _ (p : ℕ) (xs : List ℕ) (len : length xs ≡ places) (lt : p < pages)
   -- numbers of a table that fit are so in each of its cuts
   pub cut-fits : (w : ℕ) → ((c : ℕ) → c < places → getD xs c 0 < 256 ^ w) → every (fits w) (page-cut p xs) ≡ true
   cut-fits w small =
-      every-from (fits w) (page-cut p xs)
+      every-places (fits w) (page-cut p xs) 0
       (λ i li.
       let here : i < slots = omega (arith, length-cut) in
       let e : getD (page-cut p xs) i 0 ≡ getD xs (slots * p + i) 0 = getD-take slots (drop (slots * p) xs) i 0 here ∙ getD-drop (slots * p) xs i 0 in

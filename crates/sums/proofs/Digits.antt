@@ -1,6 +1,6 @@
 -- Numbers and rows of numbers as bytes: how long they are, that each byte is one, and that what is read is what was written.
 use mathlib.Core.Path.{_≡_, refl, sym, ap, _∙_}
-use mathlib.Core.Bool.{Bool, true}
+use mathlib.Core.Bool.{true}
 use mathlib.Core.List.{List, [], _∷_, _++_, append-assoc, append-nil}
 use Prim.Native.Nat.{ℕ, zero, suc, _+_, _*_, _/_, _%_, _^_, _≤_, _<_}
 use native.Mathlib.Nat.{div-div-eq-div-mul, mod-eq-of-lt, one-le-pow, pow-zero, pow-suc, mul-suc}
@@ -12,6 +12,7 @@ use Rattle.std.proofs.shelf.Lists.{take-more, take-at, drop-at}
 use Rattle.std.proofs.shelf.Tests.{and-from, and-parts, ltb-true, lt-ltb}
 use Rattle.sums.specs.Digits.{digits, value, fits, row-bytes, row-numbers}
 use Rattle.sums.specs.Sums.{every}
+use Rattle.sums.proofs.Everys.{every-append}
 
 pub length-digits : (w n : ℕ) → length (digits w n) ≡ w
 unfolding digits
@@ -119,11 +120,6 @@ numbers-back w (n ∷ ns) rest all =
     ∙ ap (λ x. value (digits w n) ∷ row-numbers w (length ns) x) behind
     ∙ ap (λ x. x ∷ row-numbers w (length ns) (row-bytes w ns ++ rest)) (value-back w n small)
     ∙ ap (λ x. n ∷ x) (numbers-back w ns rest more)
-
-pub every-append : {A : Type 0} (f : A → Bool) (xs ys : List A) → every f xs ≡ true → every f ys ≡ true → every f (xs ++ ys) ≡ true
-unfolding every
-every-append f [] ys p q = q
-every-append f (x ∷ xs) ys p q = and-from _ _ (and-parts _ _ p .0) (every-append f xs ys (and-parts (f x) _ p .1) q)
 
 pub digits-bytes : (w n : ℕ) → every (λ b. ltb b 256) (digits w n) ≡ true
 unfolding digits every

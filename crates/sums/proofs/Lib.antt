@@ -1,4 +1,5 @@
 pub mod Eaches
+pub mod Everys
 pub mod Laws
 pub mod Rising
 pub mod Parts

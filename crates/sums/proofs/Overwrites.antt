@@ -1,15 +1,14 @@
--- Writing over a part of a list: by a slice's part, by one element, once more behind it, and over the whole.
+-- Writing over a part of a list: by a slice's part, and once more behind it.
 use mathlib.Core.Path.{_≡_, refl, sym, ap, _∙_}
-use mathlib.Core.List.{List, [], _∷_, _++_, append-nil}
+use mathlib.Core.List.{List, [], _++_, append-nil}
 use Prim.Native.Nat.{ℕ, _+_, _*_, _-_, _≤_, _<_}
 use native.Mathlib.Nat.{add-zero, mul-suc, mul-le-mul-left}
-use native.Mathlib.Numerals.{add-one}
 use native.Mathlib.Omega.{arith}
 use borrow.Rule.Slice.PartMut.{putMid}
-use lib.ListN.{length, take, drop, set, length-append, length-take, length-drop}
+use lib.ListN.{length, take, drop, length-append, length-take, length-drop}
 use lib.Seq.{paste}
 use Rattle.std.proofs.shelf.Edits.{paste-all, paste-paste}
-use Rattle.std.proofs.shelf.Lists.{drop-drop, drop-all, take-append-drop, set-split}
+use Rattle.std.proofs.shelf.Lists.{drop-drop, drop-all, take-append-drop}
 use Rattle.sums.specs.Written.{written}
 
 module _ {A : Type 0} where
@@ -21,9 +20,6 @@ module _ {A : Type 0} where
   pub putMid-rest : (xs : List A) (at : ℕ) (ys : List A) → putMid at (length xs - at) xs ys ≡ take at xs ++ ys
   putMid-rest xs at ys =
       ap (λ l. take at xs ++ (ys ++ l)) (drop-all (length xs - at) (drop at xs) (simp length-drop (omega arith))) ∙ ap (λ l. take at xs ++ l) (append-nil ys)
-
-  pub set-written : (xs : List A) (at : ℕ) (y : A) → at < length xs → set xs at y ≡ written xs at (y ∷ [])
-  set-written xs at y lt = set-split xs at y lt ∙ ap (λ k. take at xs ++ y ∷ drop k xs) (sym (add-one at))
 
   pub written-none : (xs : List A) (at : ℕ) → written xs at [] ≡ xs
   written-none xs at = simp add-zero (take-append-drop at xs)
@@ -38,9 +34,6 @@ module _ {A : Type 0} where
       ∙ paste-paste xs at ys zs (length ys) (length zs) refl refl le
       ∙ paste-all xs at (ys ++ zs) (length ys + length zs) (sym (length-append ys zs))
       ∙ ap (λ k. take at xs ++ ((ys ++ zs) ++ drop (at + k) xs)) (sym (length-append ys zs)))
-
-  pub written-all : (xs ys : List A) → length xs ≤ length ys → written xs 0 ys ≡ ys
-  written-all xs ys le = ap (λ l. ys ++ l) (drop-all (0 + length ys) xs (omega arith)) ∙ append-nil ys
 
   pub length-written : (xs : List A) (at : ℕ) (ys : List A) → at + length ys ≤ length xs → length (written xs at ys) ≡ length xs
   length-written xs at ys le = simp (length-append, length-take, length-drop) (omega arith)

@@ -1,16 +1,17 @@
 -- Rows of bytes.
 use mathlib.Core.Path.{_≡_, refl, sym, ap, _∙_}
-use mathlib.Core.Bool.{Bool, true, false, _&&_}
+use mathlib.Core.Bool.{Bool, true}
 use mathlib.Core.List.{List, [], _∷_, _++_}
 use Prim.Native.Nat.{ℕ, _-_, _≤_, _<_, min}
 use mathlib.Core.Logic.{⊎-elim}
 use native.Mathlib.Omega.{arith}
-use lib.Dec.{leb, ltb}
+use lib.Dec.{ltb}
 use lib.Seq.{take-length}
 use Rattle.std.proofs.shelf.Lists.{take-all}
 use lib.ListN.{length, take}
 use Rattle.std.proofs.shelf.Tests.{and-parts, and-from, le-leb, lt-ltb, leb-true, cases-lt}
 use Rattle.sums.specs.Sums.{every}
+use Rattle.sums.proofs.Everys.{every-last}
 use Rattle.machine.specs.Run.{bytes}
 
 -- each is a byte
@@ -21,14 +22,9 @@ pub none-bytes : all-bytes [] ≡ true
 unfolding all-bytes every
 none-bytes = refl
 
-every-push : {A : Type 0} (f : A → Bool) (xs : List A) (x : A) → every f xs ≡ true → f x ≡ true → every f (xs ++ x ∷ []) ≡ true
-unfolding every
-every-push f [] x h q = rw q
-every-push f (y ∷ xs) x h q = and-from _ _ (and-parts _ _ h .0) (every-push f xs x (and-parts (f y) _ h .1) q)
-
 pub bytes-push : (xs : List ℕ) (x : ℕ) → all-bytes xs ≡ true → x < 256 → all-bytes (xs ++ x ∷ []) ≡ true
 unfolding all-bytes
-bytes-push xs x h lt = every-push (λ b. ltb b 256) xs x h (lt-ltb _ _ lt)
+bytes-push xs x h lt = every-last (λ b. ltb b 256) xs x h (lt-ltb _ _ lt)
 
 pub bytes-fit : (xs : List ℕ) → length xs ≤ 4096 → all-bytes xs ≡ true → bytes xs ≡ true
 unfolding all-bytes

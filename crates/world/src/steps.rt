@@ -31,6 +31,21 @@ pub struct Call<'a> {
     pub bytes: &'a [u8],
 }
 
+impl<'a> Call<'a> {
+    fn new(kind: u64, a: u64, b: u64, c: u64, bytes: &'a [u8]) -> Call<'a>
+        ensures numbers { λ r. ⌜ (r .kind ≡ kind) × (r .a ≡ a) × (r .b ≡ b) × (r .c ≡ c) ⌝ }
+        ensures bytes { λ r. ⌜ now (r .bytes) ≡ now (bytes .entry) ⌝ }
+    {
+        Call {
+            kind,
+            a,
+            b,
+            c,
+            bytes,
+        }
+    }
+}
+
 impl Pending {
     fn call(&self) -> Call<'_>
         ensures event { λ r. ⌜ event-of (r .kind) (r .a) (r .b) (r .c) (now (r .bytes)) ≡ as-event (now (self .entry)) ⌝ }
@@ -39,55 +54,13 @@ impl Pending {
     {
         let none: &[u8] = &[];
         match self {
-            Pending::Wakes(i) => Call {
-                kind: 0,
-                a: *i,
-                b: 0,
-                c: 0,
-                bytes: none,
-            },
-            Pending::Comes(r) => Call {
-                kind: 1,
-                a: r.time,
-                b: r.place,
-                c: r.value,
-                bytes: none,
-            },
-            Pending::Later => Call {
-                kind: 2,
-                a: 0,
-                b: 0,
-                c: 0,
-                bytes: none,
-            },
-            Pending::Ends => Call {
-                kind: 3,
-                a: 0,
-                b: 0,
-                c: 0,
-                bytes: none,
-            },
-            Pending::Letter(i, t) => Call {
-                kind: 4,
-                a: *i,
-                b: 0,
-                c: 0,
-                bytes: t.text.as_slice(),
-            },
-            Pending::Slot(t) => Call {
-                kind: 5,
-                a: 0,
-                b: 0,
-                c: 0,
-                bytes: t.text.as_slice(),
-            },
-            Pending::Next => Call {
-                kind: 6,
-                a: 0,
-                b: 0,
-                c: 0,
-                bytes: none,
-            },
+            Pending::Wakes(i) => Call::new(0, *i, 0, 0, none),
+            Pending::Comes(r) => Call::new(1, r.time, r.place, r.value, none),
+            Pending::Later => Call::new(2, 0, 0, 0, none),
+            Pending::Ends => Call::new(3, 0, 0, 0, none),
+            Pending::Letter(i, t) => Call::new(4, *i, 0, 0, t.text.as_slice()),
+            Pending::Slot(t) => Call::new(5, 0, 0, 0, t.text.as_slice()),
+            Pending::Next => Call::new(6, 0, 0, 0, none),
         }
     }
 }

@@ -10,7 +10,7 @@ use Rattle.std.proofs.shelf.Lists.{drop-drop, take-all, take-more-set}
 use Rattle.std.proofs.shelf.Tests.{and-from}
 use Rattle.sums.specs.Digits.{value, fits, row-numbers}
 use Rattle.sums.specs.Sums.{every}
-use Rattle.sums.proofs.Digits.{every-append}
+use Rattle.sums.proofs.Everys.{every-append}
 use Rattle.sums.proofs.Overwrites.{part-fits-in}
 use Rattle.sums.proofs.numbers.take_row.Needs as need
 
