@@ -1,4 +1,5 @@
 // Numbers and rivers that a seed decides, and rivers as text.
+#![tactic(auto)]
 mod random;
 mod rivers;
 mod text;

@@ -1,4 +1,6 @@
 // One gauge: its readings accumulated, its hours told, its checkpoints.
+#![tactic(auto)]
+
 pub mod act;
 mod checkpoint;
 mod dispatch;

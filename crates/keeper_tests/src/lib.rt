@@ -1,4 +1,5 @@
 // Stations on real files: let go of after every number of turns, and given files that are no good.
+#![tactic(auto)]
 #[cfg(test)]
 mod tests {
     use keeper::{Options, Request, Station};

@@ -1,4 +1,5 @@
 // Rivers played whole, written out, struck and judged.
+#![tactic(auto)]
 pub mod course;
 mod playing;
 pub mod score;

@@ -1,4 +1,6 @@
 // What the player is asked to do, by the words of its command line.
+#![tactic(auto)]
+
 use std::alloc::{AllocError, Global};
 use std::error::Error;
 use std::fmt;

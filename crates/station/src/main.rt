@@ -1,4 +1,5 @@
 // One machine on real files; its wires are standard input and output.
+#![tactic(auto)]
 use keeper::{Options, Request, Station};
 use std::{env, fmt};
 

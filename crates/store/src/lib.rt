@@ -1,4 +1,6 @@
 // What outlives a crash: the root record, pages of sums, and the cursor, and which drawer holds what.
+#![tactic(auto)]
+
 ghost use Rattle.store.specs.Laws.{CheckpointLaws, BootLaw};
 
 pub mod drawers;

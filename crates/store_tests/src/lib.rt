@@ -1,4 +1,5 @@
 // Records, drawers and pages on examples worked out by hand.
+#![tactic(auto)]
 #[cfg(test)]
 mod tests {
     use std::test::Fail;

@@ -1,4 +1,6 @@
 // Text as bytes: its lines, words and numbers, and bytes as text.
+#![tactic(auto)]
+
 mod base16;
 mod read;
 

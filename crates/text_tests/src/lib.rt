@@ -1,4 +1,5 @@
 // Bytes as hexadecimal text, and what is no such text.
+#![tactic(auto)]
 #[cfg(test)]
 mod tests {
     use std::test::Fail;

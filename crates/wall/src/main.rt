@@ -1,4 +1,5 @@
 // Prints the rows of a wall, each once, by hour and place: all, or some, or a chart of one place.
+#![tactic(auto)]
 use rows::Row;
 use std::alloc::{AllocError, AllocFailed};
 use std::io::Read;

@@ -1,4 +1,5 @@
 // The ends of a machine's wires as text: a line for each letter.
+#![tactic(auto)]
 mod error;
 mod lines;
 

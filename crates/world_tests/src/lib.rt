@@ -1,4 +1,5 @@
 // Long rivers of one gauge, played under lightning: the wall is right, and all is told.
+#![tactic(auto)]
 #[cfg(test)]
 mod tests {
     use river::{Item, parse};

@@ -8,13 +8,13 @@ pub unwrap-requires : goal.unwrap-requires
 unwrap-requires c =
     let m = c.args.memory.now in
     let p = c.args.page in
-    ap is_ok c.encode-page.ensures.told
+    ap is_ok c.encode_page.ensures.told
     ∙ page_is_told m p _ _ c.args.out.now (omega arith) (omega arith) (page_sums_slice m p) (page_counts_slice m p) (omega arith)
 
 pub returns : goal.returns
 returns c =
     let m = c.args.memory.now in
     let p = c.args.page in
-    kept_over c.args.drawer c.args.drawer _ _ c.args.out.now c.encode-page.new.out refl (length_page_in m p (omega arith) (omega arith))
-    (c.encode-page.ensures.out
+    kept_over c.args.drawer c.args.drawer _ _ c.args.out.now c.encode_page.new.out refl (length_page_in m p (omega arith) (omega arith))
+    (c.encode_page.ensures.out
     ∙ page_is_written m p _ _ c.args.out.now (omega arith) (omega arith) (page_sums_slice m p) (page_counts_slice m p) (omega arith))

@@ -7,7 +7,7 @@ pub returns : goal.returns
 returns c =
     let n = length c.args.out.now in
     let k : n - 0 ≡ n = omega arith in
-    c.copy-from-slice.ensures.after
-    ∙ ap (λ bs. take (n - 0) bs) (c.to-le-bytes-bytes.ensures ∙ digits_eight c.args.number)
+    c.copy_from_slice.ensures.after
+    ∙ ap (λ bs. take (n - 0) bs) (c.to_le_bytes-bytes.ensures ∙ digits_eight c.args.number)
     ∙ ap (λ m. take m (digits widest c.args.number)) k
     ∙ take_digits n widest c.args.number (omega arith)

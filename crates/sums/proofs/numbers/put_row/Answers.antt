@@ -11,14 +11,14 @@ pub loop-number-init : goal.loop-number-init
 unfolding row_bytes
 loop-number-init c = (omega arith, sym (written_none c.args.out.now 0))
 
-pub overflow-add-at : goal.overflow-add-at
-overflow-add-at c = omega (arith, part_fits_in c.args.width c.loop-number.number-index (length c.args.numbers.now) c.loop-number-test.true)
+pub overflow_add-at : goal.overflow_add-at
+overflow_add-at c = omega (arith, part_fits_in c.args.width c.loop-number.number-index (length c.args.numbers.now) c.loop-number-test.true)
 
-pub slice-bounds-put-number-end : goal.slice-bounds-put-number-end
-slice-bounds-put-number-end c = omega (arith, part_fits_in c.args.width c.loop-number.number-index (length c.args.numbers.now) c.loop-number-test.true)
+pub slice_bounds-put_number-end : goal.slice_bounds-put_number-end
+slice_bounds-put_number-end c = omega (arith, part_fits_in c.args.width c.loop-number.number-index (length c.args.numbers.now) c.loop-number-test.true)
 
-pub overflow-add-at-in-loop-number : goal.overflow-add-at-in-loop-number
-overflow-add-at-in-loop-number c = omega (arith, part_fits_in c.args.width c.loop-number.number-index (length c.args.numbers.now) c.loop-number-test.true)
+pub overflow_add-at-in-loop-number : goal.overflow_add-at-in-loop-number
+overflow_add-at-in-loop-number c = omega (arith, part_fits_in c.args.width c.loop-number.number-index (length c.args.numbers.now) c.loop-number-test.true)
 
 pub loop-number-preserved : goal.loop-number-preserved
 loop-number-preserved c =
@@ -35,7 +35,7 @@ loop-number-preserved c =
     let front : length (row_bytes w (take i ns)) ≡ at =
     length_row w (take i ns) ∙ ap (λ m. w * m) (length-take-le i ns (omega arith)) ∙ sym c.loop-number.invariant.0 in (
       omega (arith, mul-add w i 1),
-      ap (λ ys. put_mid at (at + w - at) out ys) (c.put-number.ensures ∙ ap (λ m. digits m n) part)
+      ap (λ ys. put_mid at (at + w - at) out ys) (c.put_number.ensures ∙ ap (λ m. digits m n) part)
           ∙ put_mid_written out at (at + w - at) (digits w n) (length_digits w n ∙ sym k)
           ∙ ap (λ l. written l at (digits w n)) c.loop-number.invariant.1
           ∙ written_written c.args.out.now 0 (row_bytes w (take i ns)) (digits w n) at (omega arith) (omega arith)

@@ -3,5 +3,5 @@ use Rattle.sums.proofs.numbers.read_number.Goals as goal
 
 pub returns : goal.returns
 returns c =
-    let rest = c.number-and-rest.ensures.rest in
-    (c.if-width-gt-WIDEST.false, c.number-and-rest.ensures.number, rest, omega (arith, ap length rest, length-drop c.args.width c.args.bytes.now))
+    let rest = c.number_and_rest.ensures.rest in
+    (c.if-width-gt-WIDEST.false, c.number_and_rest.ensures.number, rest, omega (arith, ap length rest, length-drop c.args.width c.args.bytes.now))

@@ -7,8 +7,8 @@ use Rattle.sums.proofs.Everys.{every_append}
 use Rattle.sums.proofs.Overwrites.{part_fits_in}
 use Rattle.sums.proofs.numbers.take_row.Goals as goal
 
-pub number-and-rest-first-requires : goal.number-and-rest-first-requires
-number-and-rest-first-requires c =
+pub number_and_rest-first-requires : goal.number_and_rest-first-requires
+number_and_rest-first-requires c =
     let w = c.args.width in
     let i = c.loop-number.number-index in
     let room = part_fits_in w i (length c.args.numbers.now) c.loop-number-test.true in
@@ -42,11 +42,11 @@ loop-number-preserved c =
     let i = c.loop-number.number-index in
     let bs = c.args.bytes.now in
     let next : w * i + w ≡ w * (i + 1) = omega (arith, mul-add w i 1) in
-    let e = c.number-and-rest-first.ensures in (
+    let e = c.number_and_rest-first.ensures in (
       e.rest ∙ ap (drop w) c.loop-number.invariant.0 ∙ drop-drop w (w * i) bs ∙ ap (λ k. drop k bs) next,
-      row_step w (length c.args.numbers.now) i c.loop-number.numbers bs c.loop-number.rest.now c.number-and-rest-first.result.1.now
-          c.number-and-rest-first.result.0 (omega arith) (omega arith) e.number e.rest c.loop-number.invariant.1,
-      fit_step w i c.loop-number.numbers c.number-and-rest-first.result.0 (omega arith) c.loop-number.invariant.2 e.small,
+      row_step w (length c.args.numbers.now) i c.loop-number.numbers bs c.loop-number.rest.now c.number_and_rest-first.result.1.now
+          c.number_and_rest-first.result.0 (omega arith) (omega arith) e.number e.rest c.loop-number.invariant.1,
+      fit_step w i c.loop-number.numbers c.number_and_rest-first.result.0 (omega arith) c.loop-number.invariant.2 e.small,
     )
 
 pub returns : goal.returns

@@ -12,8 +12,8 @@ loop-byte-preserved c =
     let b = get_or bs i 0 in
     let done = string_bytes c.loop-byte.text in
     let small : b < 256 = omega arith in
-    let one = c.in-ok-push.ensures in
-    let two = c.in-ok-push-2.ensures in
+    let one = c.in_ok-push.ensures in
+    let two = c.in_ok-push-2.ensures in
     let high : encode c.digit.result ≡ hex_digit (b / 16) ∷ [] =
     one.ascii (omega (arith, c.digit.ensures, digit_small (b / 16) (omega arith))) ∙ ap (λ d. d ∷ []) c.digit.ensures in
     let low : encode c.digit-in-loop-byte.result ≡ hex_digit (b % 16) ∷ [] =

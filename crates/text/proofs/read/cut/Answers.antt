@@ -28,6 +28,6 @@ returns c =
     let rest : from p (drop i bs) ≡ drop i bs =
     elim c.loop-end-test.branch [ then-loop-end-test+else-not-holds w ↦ from_here p bs i w.loop-end-test.true (sym w.if-not-holds.ensures) | else-loop-end-test w ↦ from_end p bs i (omega arith) ] in
     record {
-      front = c.split-at.ensures.front ∙ sym (append-nil (take i bs)) ∙ ap (λ l. take i bs ++ l) (sym none) ∙ c.loop-end.invariant.1;
-      back = c.split-at.ensures.back ∙ sym rest ∙ c.loop-end.invariant.2;
+      front = c.split_at.ensures.front ∙ sym (append-nil (take i bs)) ∙ ap (λ l. take i bs ++ l) (sym none) ∙ c.loop-end.invariant.1;
+      back = c.split_at.ensures.back ∙ sym rest ∙ c.loop-end.invariant.2;
     }

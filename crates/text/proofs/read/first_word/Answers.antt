@@ -5,10 +5,10 @@ use Rattle.text.specs.Text.{words, from, blank}
 use Rattle.text.proofs.Cuts.{solid, words_solid, words_cut, first_solid}
 use Rattle.text.proofs.read.first_word.Goals as goal
 
-pub returns-then-is-empty : goal.returns-then-is-empty
+pub returns-then-is_empty : goal.returns-then-is_empty
 unfolding words
-returns-then-is-empty c =
-    let none = eqb-true _ 0 (sym c.if-is-empty.ensures) in
+returns-then-is_empty c =
+    let none = eqb-true _ 0 (sym c.if-is_empty.ensures) in
     sym (words_solid c.args.bytes.now) ∙ ap words (sym c.cut.ensures.back ∙ nil_from_length _ none)
 
 pub returns : goal.returns
@@ -16,6 +16,6 @@ returns c =
     let bs = c.args.bytes.now in
     let left = c.cut.result.1.now in
     let back : left ≡ from solid bs = c.cut.ensures.back in
-    let some : 0 < length left = omega (arith, eqb-false _ 0 (sym c.if-is-empty.ensures)) in
+    let some : 0 < length left = omega (arith, eqb-false _ 0 (sym c.if-is_empty.ensures)) in
     let first : blank (get_or left 0 0) ≡ false = ap (λ l. blank (get_or l 0 0)) back ∙ first_solid bs (omega (arith, ap length back)) in
     sym (words_solid bs) ∙ ap words (sym back) ∙ words_cut left some first ∙ (λ i. sym c.cut-2.ensures.front i ∷ words (sym c.cut-2.ensures.back i))

@@ -3,4 +3,4 @@ use Rattle.store.proofs.records.Cursor.encode.Goals as goal
 
 pub returns : goal.returns
 unfolding cursor_bytes
-returns c = c.write-record.ensures
+returns c = c.write_record.ensures

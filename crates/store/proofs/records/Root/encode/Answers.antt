@@ -8,8 +8,8 @@ unfolding root_bytes
 returns c =
     let root = c.args.self in
     record {
-      told = c.write-record.ensures.told;
+      told = c.write_record.ensures.told;
       out =
-          c.write-record.ensures.out
+          c.write_record.ensures.out
           ∙ ap (λ n. record_written root_length (row_bytes number_width (n ∷ root.hour ∷ root.pos ∷ [])) c.args.out.now) c.number.ensures;
     }

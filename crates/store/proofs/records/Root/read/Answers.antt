@@ -8,12 +8,12 @@ use Rattle.store.proofs.records.Root.read.Goals as goal
 pub returns : goal.returns
 returns c =
     let bs : List ℕ = c.args.bytes.now in
-    let number = c.in-ok-number.ensures in
-    let hour = c.in-ok-hour.ensures in
-    let pos = c.in-ok-pos.ensures in
-    let set = c.in-ok-set.ensures ∙ ap numbered_set number.1 in
-    let second : c.in-ok-hour.hour ≡ number_at 1 bs = hour.1 ∙ ap (λ l. value (take number_width l)) number.2 in
-    let third : c.in-ok-pos.pos ≡ number_at 2 bs =
+    let number = c.in_ok-number.ensures in
+    let hour = c.in_ok-hour.ensures in
+    let pos = c.in_ok-pos.ensures in
+    let set = c.in_ok-set.ensures ∙ ap numbered_set number.1 in
+    let second : c.in_ok-hour.hour ≡ number_at 1 bs = hour.1 ∙ ap (λ l. value (take number_width l)) number.2 in
+    let third : c.in_ok-pos.pos ≡ number_at 2 bs =
     pos.1 ∙ ap (λ l. value (take number_width l)) (hour.2 ∙ ap (drop number_width) number.2 ∙ drop-drop number_width number_width bs) in
     let whole : length bs ≡ root_length = omega arith in
     simp (eq-eqb (length bs) root_length whole, ← set, ← second, ← third)
