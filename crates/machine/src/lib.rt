@@ -1,5 +1,6 @@
 // One machine: what it is told, what it does then, and one step from the one to the other.
 #![tactic(auto)]
+
 ghost use Rattle.std.specs.Prelude.{◌≡◌, ◌≤◌, length};
 ghost use Rattle.gauge.specs.Deeds.{Did};
 ghost use Rattle.gauge.specs.Memory.{cells};

@@ -1,5 +1,6 @@
 // What the machines promise together.
 #![tactic(auto)]
+
 ghost use Rattle.machine.specs.Entry.{own};
 ghost use Rattle.promise.specs.Promise.{InOrder, Outlives, NeverBack, Whole, core};
 ghost use Rattle.promise.specs.Released.{ReleasedKept, AllReleased};

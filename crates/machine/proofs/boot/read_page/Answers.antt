@@ -36,13 +36,13 @@ returns c =
     let bs = c.args.bytes.now in
     let p = c.args.page in
     let zeros : List ℕ = replicate slots 0 in
-    let done = c.in-ok-decode-page.ensures in
+    let done = c.in_ok-decode_page.ensures in
     let fit : page_fits bs ≡ true = and_from _ _ (whole bs zeros zeros done.told) done.small in
-    let sums : c.copy-from-slice.new.self ≡ page_sums bs = sums_are bs zeros zeros done.told c.copy-from-slice.ensures.after done.sums in
-    let counts : c.copy-from-slice-2.new.self ≡ page_counts bs = counts_are bs zeros zeros done.told c.copy-from-slice-2.ensures.after done.counts in
+    let sums : c.copy_from_slice.new.self ≡ page_sums bs = sums_are bs zeros zeros done.told c.copy_from_slice.ensures.after done.sums in
+    let counts : c.copy_from_slice-2.new.self ≡ page_counts bs = counts_are bs zeros zeros done.told c.copy_from_slice-2.ensures.after done.counts in
     let first = row_put m (sums_at + slots * p) _ (page_sums bs) sums (length_sums bs) in
     let second = row_put (written m (sums_at + slots * p) (page_sums bs)) (counts_at + slots * p) _ (page_counts bs) counts (length_counts bs) in
     record {
       told = sym fit;
-      read = ap (λ l. put_mid (counts_at + slots * p) (counts_at + slots * p + slots - (counts_at + slots * p)) l c.copy-from-slice-2.new.self) first ∙ second ∙ sym (cond-true (page_fits bs) _ _ fit);
+      read = ap (λ l. put_mid (counts_at + slots * p) (counts_at + slots * p + slots - (counts_at + slots * p)) l c.copy_from_slice-2.new.self) first ∙ second ∙ sym (cond-true (page_fits bs) _ _ fit);
     }
