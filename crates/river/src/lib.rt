@@ -1,5 +1,6 @@
 // Rivers: what eight gauges read and what happens to their machines, as text.
 #![tactic(auto)]
+
 mod draft;
 mod line;
 pub mod mistake;

@@ -6,7 +6,7 @@ use Rattle.river.proofs.draft.Draft.new.Goals as goal
 
 pub loop-preserved : goal.loop-preserved
 loop-preserved c =
-    let pushed = c.in-ok-push.ensures in (
+    let pushed = c.in_ok-push.ensures in (
       omega (arith, pushed.len),
       rows_more (vec_items c.push.new.self) (vec_items c.loop.gauges) c.new.result c.loop.counter pushed.items c.new.ensures.items c.loop.invariant.1,
     )
