@@ -1,5 +1,6 @@
 // Numbers and rivers that a seed decides, and rivers as text.
 #![tactic(auto)]
+
 mod random;
 mod rivers;
 mod text;

@@ -1,5 +1,6 @@
 // One machine in its hut: told events, stepped, and its acts done on what it holds.
 #![tactic(auto)]
+
 mod acts;
 pub mod effect;
 pub mod hut;

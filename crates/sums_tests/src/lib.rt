@@ -1,5 +1,6 @@
 // Pages and cells on examples worked out by hand.
 #![tactic(auto)]
+
 #[cfg(test)]
 mod tests {
     use std::test::Fail;

@@ -1,5 +1,6 @@
 // Bytes as hexadecimal text, and what is no such text.
 #![tactic(auto)]
+
 #[cfg(test)]
 mod tests {
     use std::test::Fail;

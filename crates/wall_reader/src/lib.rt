@@ -1,5 +1,6 @@
 // The wall, read back: its rows, which of them are asked for, and a chart of them.
 #![tactic(auto)]
+
 mod asked;
 mod bars;
 mod line;

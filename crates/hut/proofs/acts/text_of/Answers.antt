@@ -20,4 +20,4 @@ returns c =
     let lt : c.args.drawer < length (vec_items v) = omega (arith, v.ok.0) in
     let row : vec_items t.text ≡ nth_row (each as_text (vec_items v)) c.args.drawer =
     ap as_text c.index.ensures ∙ sym (row_at as_text (vec_items v) c.args.drawer t lt) in
-    IfOk-weaker c.copied.result _ _ (λ x e. e ∙ c.as-slice.ensures.value ∙ row) c.copied.ensures
+    IfOk-weaker c.copied.result _ _ (λ x e. e ∙ c.as_slice.ensures.value ∙ row) c.copied.ensures

@@ -12,6 +12,6 @@ loop-init c = ap (each as_text) c.new-drawers.ensures.items
 
 pub loop-preserved : goal.loop-preserved
 loop-preserved c =
-    ap (each as_text) c.in-ok-push.ensures.items ∙ each_push as_text _ _
+    ap (each as_text) c.in_ok-push.ensures.items ∙ each_push as_text _ _
     ∙ ap₂ (λ xs x. xs ++ x ∷ []) c.loop.invariant c.empty.ensures
     ∙ sym (so_many_push c.loop.counter []) ∙ ap (λ n. so_many_of n []) (sym (add-one c.loop.counter))

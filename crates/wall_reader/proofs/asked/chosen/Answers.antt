@@ -21,8 +21,8 @@ loop-row-preserved c =
     let rest = those f (as_wall (drop (i + 1) rows)) in
     let here = c.loop-row-test.true in
     elim c.if-lets.branch [
-      | goal.then-lets+in-ok-push w ↦
-          ap (λ v. as_wall (vec_items v) ++ rest) w.some-is ∙ ap (λ l. as_wall l ++ rest) w.in-ok-push.ensures.items
+      | goal.then-lets+in_ok-push w ↦
+          ap (λ v. as_wall (vec_items v) ++ rest) w.some-is ∙ ap (λ l. as_wall l ++ rest) w.in_ok-push.ensures.items
           ∙ ap (λ l. l ++ rest) (each_push as_told done (get_or rows i no_row))
           ∙ took rows i no_row here f (as_wall done) (those f (as_wall rows)) c.loop-row.invariant (sym w.if-lets.ensures)
       | goal.else-lets w ↦ ap (λ v. as_wall (vec_items v) ++ rest) w.some-is ∙ passed rows i no_row here f (as_wall done) (those f (as_wall rows)) c.loop-row.invariant (sym w.if-lets.ensures)

@@ -13,8 +13,8 @@ length_is c = λ i. (c.from-shown.ensures ∙ c.min.ensures) i * c.from.ensures 
 short : (c : goal.After-from-2) → c.from-shown.result * c.from.result / c.from-2.result ≤ c.args.width
 short c = subst (λ n. n ≤ c.args.width) (sym (length_is c)) (part c.args.sum c.args.greatest c.args.width)
 
-pub overflow-cast-result : goal.overflow-cast-result
-overflow-cast-result c = let few = short c in search rules
+pub overflow_cast-result : goal.overflow_cast-result
+overflow_cast-result c = let few = short c in search rules
 
 pub returns : goal.returns
 returns c = record { length = length_is c ∙ sym (cond-false _ _ _ (ne_eqb c.args.greatest 0 c.if-greatest-eq0.false)); within = short c }

@@ -10,8 +10,8 @@ use Rattle.wall_reader.specs.Charts.{of_place}
 use Rattle.wall_reader.proofs.Walls.{no_row, any_place}
 use Rattle.wall_reader.proofs.bars.one_place.Goals as goal
 
-pub returns-in-default : goal.returns-in-default
-returns-in-default c = length_each as_told c.args.rows.now ∙ omega (arith, ltb-false 0 _ (sym c.in-default.ensures.item.0))
+pub returns-in_default : goal.returns-in_default
+returns-in_default c = length_each as_told c.args.rows.now ∙ omega (arith, ltb-false 0 _ (sym c.in_default.ensures.item.0))
 
 pub loop-row-init : goal.loop-row-init
 unfolding every each

@@ -5,5 +5,5 @@ use Rattle.wall_reader.proofs.line.print_and_read.Goals as goal
 
 pub returns : goal.returns
 returns c =
-    c.read-row.ensures ∙ ap row_on (c.as-bytes.ensures.value ∙ c.in-ok-line.ensures.ok)
+    c.read_row.ensures ∙ ap row_on (c.as_bytes.ensures.value ∙ c.in_ok-line.ensures.ok)
     ∙ read_back c.args.row (search rules) (search rules) (search rules)

@@ -10,12 +10,12 @@ two_dots : (w front back : Bytes) → front ≡ before (λ b. eqb b 46) w → ba
 two_dots w front back f b dot =
     (λ i. hours_at (sym f i) (sym b i)) ∙ cond-true _ _ _ (eq-eqb _ 46 dot) ∙ ap (λ l. hours_between (decimal front) (decimal l)) (sym (take_rest back 2))
 
-pub returns-in-default-decimal-2 : goal.returns-in-default-decimal-2
-returns-in-default-decimal-2 c =
-    sym (two_dots c.args.word.now c.until-dot.result.0.now c.until-dot.result.1.now c.until-dot.ensures.front c.until-dot.ensures.back c.if-second-ne46.false
-    ∙ (λ i. hours_between (sym c.in-Some.ensures i) (sym c.in-default-decimal-2.ensures i)))
+pub returns-in_default-decimal-2 : goal.returns-in_default-decimal-2
+returns-in_default-decimal-2 c =
+    sym (two_dots c.args.word.now c.until_dot.result.0.now c.until_dot.result.1.now c.until_dot.ensures.front c.until_dot.ensures.back c.if-second-ne46.false
+    ∙ (λ i. hours_between (sym c.in-Some.ensures i) (sym c.in_default-decimal-2.ensures i)))
 
 pub returns : goal.returns
 returns c =
-    sym (two_dots c.args.word.now c.until-dot.result.0.now c.until-dot.result.1.now c.until-dot.ensures.front c.until-dot.ensures.back c.if-second-ne46.false
+    sym (two_dots c.args.word.now c.until_dot.result.0.now c.until_dot.result.1.now c.until_dot.ensures.front c.until_dot.ensures.back c.if-second-ne46.false
     ∙ (λ i. hours_between (sym c.in-Some.ensures i) (sym c.in-Some-decimal.ensures i)))

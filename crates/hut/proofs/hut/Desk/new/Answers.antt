@@ -1,5 +1,5 @@
 use Rattle.std.proofs.Common.{length, ap, ◌∙◌}
 use Rattle.hut.proofs.hut.Desk.new.Goals as goal
 
-pub invariant-of-result : goal.invariant-of-result
-invariant-of-result c = (c.in-ok-memory.memory.ok.0 ∙ ap length c.in-ok-memory.ensures, (c.in-ok-out.ensures.len, tt))
+pub invariant_of-result : goal.invariant_of-result
+invariant_of-result c = record { sized = c.in_ok-memory.memory.ok.0 ∙ ap length c.in_ok-memory.ensures; room = c.in_ok-out.ensures.len }

@@ -21,7 +21,7 @@ pub returns-in-From : goal.returns-in-From
 returns-in-From c = told_is _ c.args.i _ _ _ c.args.desk.now _ _ c.in-From.is (c.seek.ensures _ c.args.i)
 
 pub returns-in-LetGo : goal.returns-in-LetGo
-returns-in-LetGo c = told_is _ c.args.i _ _ _ c.args.desk.now _ _ c.in-LetGo.is (c.let-go.ensures _ c.args.i)
+returns-in-LetGo c = told_is _ c.args.i _ _ _ c.args.desk.now _ _ c.in-LetGo.is (c.let_go.ensures _ c.args.i)
 
 pub returns-in-Tells : goal.returns-in-Tells
 returns-in-Tells c = told_is _ c.args.i _ _ _ c.args.desk.now _ _ c.in-Tells.is (c.tell.ensures _ c.args.i)

@@ -17,7 +17,7 @@ returns c =
     let v = c.args.self.now.drawers in
     let t = c.index.result.now in
     let lt : c.args.drawer < length (vec_items v) = omega (arith, v.ok.0) in
-    let whole : ◌≡◌ {A = List ℕ} c.as-slice.result.now (as_text t) = c.as-slice.ensures.value in record {
+    let whole : ◌≡◌ {A = List ℕ} c.as_slice.result.now (as_text t) = c.as_slice.ensures.value in record {
       text = whole ∙ ap as_text c.index.ensures ∙ sym (row_at as_text (vec_items v) c.args.drawer t lt);
       few = rw whole (fit_few _ t.fits);
     }

@@ -7,15 +7,15 @@ pub returns-then-not-branch : goal.returns-then-not-branch
 returns-then-not-branch c = λ rs i.
     let x = as_machine c.args.self.now in
     let m = vec_items c.args.desk.now.memory in (
-      λ gs w row is. world_fault x _ _ _ _ c.in-ok-recall.ensures w i c.if-not-branch.true ∙ sym (acted_recall gs w i m x is c.args.drawer),
-      after_fault x _ _ _ _ c.in-ok-recall.ensures c.if-not-branch.true,
+      λ gs w row is. world_fault x _ _ _ _ c.in_ok-recall.ensures w i c.if-not-branch.true ∙ sym (acted_recall gs w i m x is c.args.drawer),
+      after_fault x _ _ _ _ c.in_ok-recall.ensures c.if-not-branch.true,
     )
 
 pub returns : goal.returns
 returns c = λ rs i.
     let x = as_machine c.args.self.now in
     let m = vec_items c.args.desk.now.memory in
-    let e = after_good x _ _ _ _ c.in-ok-recall.ensures c.if-not-branch.false in (
-      λ gs w row is. world_good x _ _ _ _ c.in-ok-recall.ensures w i c.if-not-branch.false ∙ sym (acted_recall gs w i m x is c.args.drawer),
+    let e = after_good x _ _ _ _ c.in_ok-recall.ensures c.if-not-branch.false in (
+      λ gs w row is. world_good x _ _ _ _ c.in_ok-recall.ensures w i c.if-not-branch.false ∙ sym (acted_recall gs w i m x is c.args.drawer),
       (ap (λ y. y.gone) e, ap (λ y. y.slots) e),
     )

@@ -12,4 +12,4 @@ none_pending (Some x) true e = cc
 none_pending (Some x) false e = refl
 
 pub returns : goal.returns
-returns c = none_pending c.args.self.now.pending c.is-none.result c.is-none.ensures
+returns c = none_pending c.args.self.now.pending c.is_none.result c.is_none.ensures

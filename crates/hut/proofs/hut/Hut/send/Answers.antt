@@ -16,11 +16,11 @@ returns c = λ rs.
     let m = vec_items c.args.desk.now.memory in
     let i = c.args.i in
     let j = c.args.reader in
-    let t = c.in-ok-text.text in
+    let t = c.in_ok-text.text in
     let e = c.turn.ensures in (
       λ gs w row is.
           ap (λ y. record { machines = set_nth w.machines i y; wires = w.wires ++ record { sender = i; reader = j; text = as_text t } ∷ []; told = w.told; fault = w.fault }) e
           ∙ sym (acted_sends gs w i m x is j (as_text t) c.if-reader-ge-MACHINES.false (λ q. c.if-reader-i.false (sym q)) t.fits)
-          ∙ ap (λ bs. acted gs w i m (sends j bs)) c.in-ok-text.ensures,
+          ∙ ap (λ bs. acted gs w i m (sends j bs)) c.in_ok-text.ensures,
       (ap (λ y. y.gone) e, ap (λ y. y.slots) e),
     )

@@ -11,19 +11,19 @@ returns c =
     let h = c.args.self.now in
     let desk = c.args.desk.now in
     let k = c.call-call.result in
-    let m = c.as-mut-slice.result.now in
-    let out = c.as-mut-slice-2.result.now in
-    let mid = c.copy-from-slice.new.self in
-    let lent : ◌≡◌ {A = List ℕ} m (vec_items mid) = c.as-mut-slice.ensures.value in
-    let after : ◌≡◌ {A = List ℕ} (vec_items mid) c.as-slice.result.now = c.copy-from-slice.ensures.items in
-    let whole : ◌≡◌ {A = List ℕ} c.as-slice.result.now (vec_items h.memory) = c.as-slice.ensures.value in
+    let m = c.as_mut_slice.result.now in
+    let out = c.as_mut_slice-2.result.now in
+    let mid = c.copy_from_slice.new.self in
+    let lent : ◌≡◌ {A = List ℕ} m (vec_items mid) = c.as_mut_slice.ensures.value in
+    let after : ◌≡◌ {A = List ℕ} (vec_items mid) c.as_slice.result.now = c.copy_from_slice.ensures.items in
+    let whole : ◌≡◌ {A = List ℕ} c.as_slice.result.now (vec_items h.memory) = c.as_slice.ensures.value in
     let copy : ◌≡◌ {A = List ℕ} m (vec_items h.memory) = lent ∙ after ∙ whole in
     let lm : length m ≡ length own.start = ap length copy ∙ sym h.memory.ok.0 ∙ h.sized in
     let long : length m ≡ mid.len = ap length lent ∙ sym mid.ok.0 in
-    let lo : length out ≡ desk.out.len = c.as-mut-slice-2.ensures.len in
-    let kept : length c.step_told.new.memory ≡ length m = omega arith in
-    let same : length c.step_told.new.out ≡ length out = omega arith in
+    let lo : length out ≡ desk.out.len = c.as_mut_slice-2.ensures.len in
+    let kept : length c.step-told.new.memory ≡ length m = omega arith in
+    let same : length c.step-told.new.out ≡ length out = omega arith in
     let lr : 3 ≤ length desk.row = omega arith in
-    step_done (vec_items h.memory) h.pending c.in-Some.event c.step_told.result _ _ m c.step_told.new.memory c.step_told.new.out
+    step_done (vec_items h.memory) h.pending c.in-Some.event c.step-told.result _ _ m c.step-told.new.memory c.step-told.new.out
     c.in-Some.is c.call-call.ensures.event copy (with_items_is mid _ (kept ∙ long)) (with_items_is desk.out _ (same ∙ lo))
-    (step_back m k.kind k.a k.b k.c k.bytes.now desk.row out _ _ _ _ lm c.call-call.ensures.kind c.call-call.ensures.room lr (lo ∙ desk.room) same c.step_told.ensures)
+    (step_back m k.kind k.a k.b k.c k.bytes.now desk.row out _ _ _ _ lm c.call-call.ensures.kind c.call-call.ensures.room lr (lo ∙ desk.room) same c.step-told.ensures)

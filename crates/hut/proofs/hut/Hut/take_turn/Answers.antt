@@ -3,9 +3,9 @@ use Rattle.hut.specs.Played.{as_machine}
 use Rattle.hut.proofs.Turning.{step_none, turned}
 use Rattle.hut.proofs.hut.Hut.take_turn.Goals as goal
 
-pub returns-in-default : goal.returns-in-default
-returns-in-default c = (refl, step_none _ _ _ c.in-default.ensures)
+pub returns-in_default : goal.returns-in_default
+returns-in_default c = (refl, step_none _ _ _ c.in_default.ensures)
 
 pub returns : goal.returns
 returns c =
-    turned _ c.args.i (as_machine c.args.self.now) _ c.in-Some.told c.step.new.desk _ _ refl c.in-Some.ensures c.in-ok-act.ensures
+    turned _ c.args.i (as_machine c.args.self.now) _ c.in-Some.told c.step.new.desk _ _ refl c.in-Some.ensures c.in_ok-act.ensures

@@ -63,15 +63,15 @@ returns-in-Next c = record {
 pub returns-in-Letter : goal.returns-in-Letter
 unfolding event_of
 returns-in-Letter c = record {
-  event = same _ _ _ _ _ _ _ _ _ _ c.new-in-Letter.ensures.numbers c.new-in-Letter.ensures.bytes ∙ ap (letter c.in-Letter.i) c.as-slice.ensures.value ∙ ap as_event (sym c.in-Letter.is);
+  event = same _ _ _ _ _ _ _ _ _ _ c.new-in-Letter.ensures.numbers c.new-in-Letter.ensures.bytes ∙ ap (letter c.in-Letter.i) c.as_slice.ensures.value ∙ ap as_event (sym c.in-Letter.is);
   kind = kind_of _ _ c.new-in-Letter.ensures.numbers.0 (lit≤ tt);
-  room = few _ _ (c.new-in-Letter.ensures.bytes ∙ c.as-slice.ensures.value) (fit_few _ c.in-Letter.t.fits);
+  room = few _ _ (c.new-in-Letter.ensures.bytes ∙ c.as_slice.ensures.value) (fit_few _ c.in-Letter.t.fits);
 }
 
 pub returns-in-Slot : goal.returns-in-Slot
 unfolding event_of
 returns-in-Slot c = record {
-  event = same _ _ _ _ _ _ _ _ _ _ c.new-in-Slot.ensures.numbers c.new-in-Slot.ensures.bytes ∙ ap slot c.as-slice-in-Slot.ensures.value ∙ ap as_event (sym c.in-Slot.is);
+  event = same _ _ _ _ _ _ _ _ _ _ c.new-in-Slot.ensures.numbers c.new-in-Slot.ensures.bytes ∙ ap slot c.as_slice-in-Slot.ensures.value ∙ ap as_event (sym c.in-Slot.is);
   kind = kind_of _ _ c.new-in-Slot.ensures.numbers.0 (lit≤ tt);
-  room = few _ _ (c.new-in-Slot.ensures.bytes ∙ c.as-slice-in-Slot.ensures.value) (fit_few _ c.in-Slot.t.fits);
+  room = few _ _ (c.new-in-Slot.ensures.bytes ∙ c.as_slice-in-Slot.ensures.value) (fit_few _ c.in-Slot.t.fits);
 }

@@ -13,16 +13,16 @@ loop-b-preserved c =
     let x = get_or c.args.from.now i 0 in
     let lt : i < length c.args.from.now = omega arith in
     let fits : x < 256 = omega arith in
-    let e : vec_items c.push.new.self ≡ vec_items c.loop-b.text ++ x ∷ [] = simp c.in-ok-push.was at c.push.ensures.items in (
+    let e : vec_items c.push.new.self ≡ vec_items c.loop-b.text ++ x ∷ [] = simp c.in_ok-push.was at c.push.ensures.items in (
       e ∙ ap (λ l. l ++ x ∷ []) c.loop-b.invariant.0 ∙ sym (take_more _ i 0 lt),
       subst (λ l. all_bytes l ≡ true) (sym e) (bytes_push _ x c.loop-b.invariant.1 fits),
     )
 
-pub invariant-of-result : goal.invariant-of-result
-invariant-of-result c =
+pub invariant_of-result : goal.invariant_of-result
+invariant_of-result c =
     let whole : vec_items c.loop-b.text ≡ c.args.from.now = c.loop-b.invariant.0 ∙ take_all c.loop-b.b-index c.args.from.now (omega arith) in
     let few : length (vec_items c.loop-b.text) ≤ 4096 = rw whole c.requires in
-    (bytes_fit _ few c.loop-b.invariant.1, tt)
+    record { fits = bytes_fit _ few c.loop-b.invariant.1 }
 
 pub returns : goal.returns
 returns c = c.loop-b.invariant.0 ∙ take_all c.loop-b.b-index c.args.from.now (omega arith)

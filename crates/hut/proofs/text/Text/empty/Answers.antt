@@ -3,5 +3,5 @@ use Rattle.machine.specs.Run.{bytes}
 use Rattle.hut.proofs.Texts.{none_bytes, bytes_fit}
 use Rattle.hut.proofs.text.Text.empty.Goals as goal
 
-pub invariant-of-result : goal.invariant-of-result
-invariant-of-result c = (subst (λ l. bytes l ≡ true) (sym c.new.ensures.items) (bytes_fit _ (lit≤ tt) none_bytes), tt)
+pub invariant_of-result : goal.invariant_of-result
+invariant_of-result c = record { fits = subst (λ l. bytes l ≡ true) (sym c.new.ensures.items) (bytes_fit _ (lit≤ tt) none_bytes) }
