@@ -1,7 +1,8 @@
 -- Lines read one after the other. Assumes nothing.
 use Rattle.std.proofs.Common.{◌≡◌, ℕ, ◌+◌, ◌-◌, ◌<◌, ◌≤◌, true, List, [], ◌∷◌, ◌++◌, length, get_or, take, drop, is_ok, Ok, Err, Result, Vec, sym, refl, ap, ◌∙◌, subst, arith, length-drop}
 use Rattle.std.specs.BTreeMap.{BTreeMap}
-use Rattle.std.specs.BTreeMap.{keys, values}
+use Rattle.std.specs.BTreeMap.{IsOrdered}
+use Rattle.rows.proofs.Summed.{pair_cmp}
 use Rattle.std.proofs.lemmas.List.{drop_more, take_more, take_all}
 use Rattle.sums.specs.Sums.{every, ToldSum}
 use Rattle.sums.proofs.Everys.{every_last}
@@ -20,9 +21,9 @@ pub record SoFar (ls : List Bytes) (n : ℕ) (m : BTreeMap (ℕ × ℕ) ℕ) : T
   pub rows : every (λ l. is_ok (row_on l)) (take n ls) ≡ true
   pub held : Holds (rows_on (take n ls)) m
 
-pub at_first : (ls : List Bytes) (m : BTreeMap (ℕ × ℕ) ℕ) → keys m ≡ [] → values m ≡ [] → SoFar ls 0 m
+pub at_first : (ls : List Bytes) (m : BTreeMap (ℕ × ℕ) ℕ) → m.entries ≡ [] → IsOrdered pair_cmp m → SoFar ls 0 m
 unfolding every rows_on
-at_first ls m ks vs = record { rows = refl; held = none_held m ks vs }
+at_first ls m none ordered = record { rows = refl; held = none_held m none ordered }
 
 rows_on_more : (ls : List Bytes) (l : Bytes) (r : Row) → row_on l ≡ Ok r → rows_on (ls ++ l ∷ []) ≡ rows_on ls ++ as_told r ∷ []
 unfolding rows_on

@@ -1,5 +1,6 @@
 // The ends of a machine's wires as text: a line for each letter.
 #![tactic(auto)]
+
 mod error;
 mod lines;
 

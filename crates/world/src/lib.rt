@@ -1,5 +1,6 @@
 // The world that is played, act by act as the definitions have it.
 #![tactic(auto)]
+
 mod post;
 pub mod tally;
 mod turns;

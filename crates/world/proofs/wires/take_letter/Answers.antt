@@ -10,9 +10,9 @@ pub loop-k-init : goal.loop-k-init
 unfolding each first_between
 loop-k-init c = (refl, refl)
 
-pub returns-then-is-between : goal.returns-then-is-between
+pub returns-then-is_between : goal.returns-then-is_between
 unfolding each
-returns-then-is-between c =
+returns-then-is_between c =
     let v = c.loop-k.wires in
     let ws = vec_items v in
     let k = c.loop-k.k in
@@ -20,7 +20,7 @@ returns-then-is-between c =
     let lt : k < length ws = omega (arith, v.ok.0) in
     let same : c.index.result.now ≡ x = c.index.ensures ∙ get_or_default ws k c.index.result.now x lt ∙ sym c.remove.ensures.value in
     let found : is_between c.args.i c.args.j (as_letter x) ≡ true =
-    ap (λ l. is_between c.args.i c.args.j (as_letter l)) (sym same) ∙ sym c.is_between.ensures ∙ c.if-is-between.true in
+    ap (λ l. is_between c.args.i c.args.j (as_letter l)) (sym same) ∙ sym c.is_between.ensures ∙ c.if-is_between.true in
     record {
       first = ap (λ u. first_between c.args.i c.args.j (each as_letter (vec_items u))) (sym c.loop-k.invariant.0)
           ∙ taken_first c.args.i c.args.j ws k x c.remove.ensures.value lt c.loop-k.invariant.1 found;
@@ -32,7 +32,7 @@ pub loop-k-preserved : goal.loop-k-preserved
 loop-k-preserved c =
     let ws = vec_items c.loop-k.wires in
     let lt : c.loop-k.k < length ws = omega (arith, c.loop-k.wires.ok.0) in
-    (c.loop-k.invariant.0, passed c.args.i c.args.j ws c.loop-k.k c.index.result.now c.index.ensures lt c.loop-k.invariant.1 (sym c.is_between.ensures ∙ c.if-is-between.false))
+    (c.loop-k.invariant.0, passed c.args.i c.args.j ws c.loop-k.k c.index.result.now c.index.ensures lt c.loop-k.invariant.1 (sym c.is_between.ensures ∙ c.if-is_between.false))
 
 pub returns : goal.returns
 unfolding each

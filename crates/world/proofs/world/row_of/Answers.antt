@@ -22,4 +22,4 @@ pub returns : goal.returns
 returns c =
     let gs = c.args.gauges.now in
     let v = c.index-gauges-i.result in
-    ap as_row c.as-slice.ensures.value ∙ ap row c.index-gauges-i.is ∙ sym (row_at row gs c.args.i v c.if-i-gauges.false)
+    ap as_row c.as_slice.ensures.value ∙ ap row c.index-gauges-i.is ∙ sym (row_at row gs c.args.i v c.if-i-gauges.false)

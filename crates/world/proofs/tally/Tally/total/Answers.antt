@@ -8,7 +8,7 @@ loop-count-preserved c =
     let i = c.loop-count.count_index in
     let counts = c.args.self.now.counts in
     let lt : i < length counts = omega arith in
-    ap (λ a. total_of a (drop (i + 1) counts)) c.saturating-add-acts.ensures ∙ sym (at_drop_more (total_of c.loop-count.acts) counts i 0 lt) ∙ c.loop-count.invariant
+    ap (λ a. total_of a (drop (i + 1) counts)) c.saturating_add-acts.ensures ∙ sym (at_drop_more (total_of c.loop-count.acts) counts i 0 lt) ∙ c.loop-count.invariant
 
 pub returns : goal.returns
 returns c =

@@ -17,5 +17,5 @@ loop-i-preserved c =
     let n = c.args.acts in
     let i = c.loop-i.i in
     let j = c.args.j in
-    c.in-ok-work.ensures ∙ ap (λ u. goes n own gs u j) (c.deliver.ensures ∙ ap (λ u. delivered u i j) c.loop-i.invariant)
+    c.in_ok-work.ensures ∙ ap (λ u. goes n own gs u j) (c.deliver.ensures ∙ ap (λ u. delivered u i j) c.loop-i.invariant)
     ∙ sym (by_each_more (λ t k. goes n own gs (delivered t k j) j) (as_world c.args.self.now) i)

@@ -13,7 +13,7 @@ loop-preserved c =
     let w = as_world c.loop.self in
     let left = c.args.rounds - (c.loop.counter + 1) in
     let more : suc (c.args.rounds - (c.loop.counter + 1)) ≡ c.args.rounds - c.loop.counter = omega arith in
-    ap (calm left n own gs) c.in-ok-round.ensures ∙ ap (λ k. calm k n own gs w) more ∙ c.loop.invariant
+    ap (calm left n own gs) c.in_ok-round.ensures ∙ ap (λ k. calm k n own gs w) more ∙ c.loop.invariant
 
 pub returns : goal.returns
 unfolding calm

@@ -14,9 +14,9 @@ pub returns-then-at-len : goal.returns-then-at-len
 returns-then-at-len c =
     let w = c.args.self.now in
     let i = c.args.i in
-    let h = c.index-mut.result.now in
+    let h = c.index_mut.result.now in
     let lt : i < vec_len w.huts = omega arith in
-    let lent = hut_at w.huts i h lt c.index-mut.ensures.value in
+    let lent = hut_at w.huts i h lt c.index_mut.ensures.value in
     ap₂ (λ ms ls. record { machines = ms; wires = ls; told = (as_world w).told; fault = w.fault })
     (each_set_nth as_machine (vec_items w.huts) i c.fall.new.self ∙ ap (set_nth (as_world w).machines i) c.fall.ensures
     ∙ ap (λ x. set_nth (as_world w).machines i (machine own.start (wakes i ∷ []) x.gone x.gone x.slots)) (sym lent))

@@ -10,9 +10,9 @@ use Rattle.world.proofs.world.World.more.Goals as goal
 pub returns : goal.returns
 returns c =
     let w = c.args.self.now in
-    let h = c.index-mut.result.now in
+    let h = c.index_mut.result.now in
     let m = vec_items w.desk.memory in
-    let is = hut_at w.huts c.args.i h c.requires c.index-mut.ensures.value in
+    let is = hut_at w.huts c.args.i h c.requires c.index_mut.ensures.value in
     hut_set (vec_items w.huts) (as_world w) c.args.i c.more.new.self
-    ∙ ap (with_machine (as_world w) c.args.i) (c.more.ensures ∙ ap (λ rs. after_more rs (as_machine h) m) c.row-of.ensures)
+    ∙ ap (with_machine (as_world w) c.args.i) (c.more.ensures ∙ ap (λ rs. after_more rs (as_machine h) m) c.row_of.ensures)
     ∙ sym (acted_more (as_gauges c.args.gauges.now) (as_world w) c.args.i m (as_machine h) is)

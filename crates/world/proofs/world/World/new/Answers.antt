@@ -15,8 +15,8 @@ loop-i-init c = ap (each as_machine) c.new-huts.ensures.items
 pub loop-i-preserved : goal.loop-i-preserved
 unfolding numbered
 loop-i-preserved c =
-    ap (each as_machine) c.in-ok-push.ensures.items ∙ each_push as_machine _ _
-    ∙ ap₂ (λ ms x. ms ++ x ∷ []) c.loop-i.invariant c.in-ok-new.ensures ∙ ap (numbered own) (sym (add-one c.loop-i.i))
+    ap (each as_machine) c.in_ok-push.ensures.items ∙ each_push as_machine _ _
+    ∙ ap₂ (λ ms x. ms ++ x ∷ []) c.loop-i.invariant c.in_ok-new.ensures ∙ ap (numbered own) (sym (add-one c.loop-i.i))
 
 pub returns : goal.returns
 unfolding each

@@ -18,11 +18,11 @@ returns-then-rests c =
     let i = c.args.i in
     let lt : i < vec_len w.huts = omega arith in
     let seen = hut_at w.huts i c.index.result.now lt c.index.ensures in
-    let lent = hut_at w.huts i c.index-mut.result.now lt c.index-mut.ensures.value in
-    let rest : none_of (as_machine c.index-mut.result.now).pending ≡ true =
+    let lent = hut_at w.huts i c.index_mut.result.now lt c.index_mut.ensures.value in
+    let rest : none_of (as_machine c.index_mut.result.now).pending ≡ true =
     ap (λ x. none_of x.pending) (sym lent ∙ seen) ∙ sym c.rests.ensures ∙ c.if-rests.true in
     hut_set (vec_items w.huts) (as_world w) i c.hear.new.self ∙ ap (with_machine (as_world w) i) c.hear.ensures
-    ∙ sym (poked_rest (as_world w) i (as_machine c.index-mut.result.now) lent rest)
+    ∙ sym (poked_rest (as_world w) i (as_machine c.index_mut.result.now) lent rest)
 
 pub returns-else-rests : goal.returns-else-rests
 returns-else-rests c =

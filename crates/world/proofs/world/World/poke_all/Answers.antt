@@ -16,5 +16,5 @@ loop-i-preserved c =
     let gs = as_gauges c.args.gauges.now in
     let n = c.args.acts in
     let i = c.loop-i.i in
-    c.in-ok-work.ensures ∙ ap (λ u. goes n own gs u i) (c.poke.ensures ∙ ap (λ u. poked u i) c.loop-i.invariant)
+    c.in_ok-work.ensures ∙ ap (λ u. goes n own gs u i) (c.poke.ensures ∙ ap (λ u. poked u i) c.loop-i.invariant)
     ∙ sym (by_each_more (λ u k. goes n own gs (poked u k) k) (as_world c.args.self.now) i)

@@ -9,15 +9,15 @@ use Rattle.world.proofs.world.World.recall.Goals as goal
 pub returns-then-not-branch : goal.returns-then-not-branch
 returns-then-not-branch c = λ gs.
     let w = c.args.self.now in
-    let h = c.index-mut.result.now in
-    let is = hut_at w.huts c.args.i h c.requires c.index-mut.ensures.value in
-    failed (vec_items w.huts) (as_world w) c.args.i h _ _ _ _ is c.in-ok-recall.ensures c.if-not-branch.true
+    let h = c.index_mut.result.now in
+    let is = hut_at w.huts c.args.i h c.requires c.index_mut.ensures.value in
+    failed (vec_items w.huts) (as_world w) c.args.i h _ _ _ _ is c.in_ok-recall.ensures c.if-not-branch.true
     ∙ sym (acted_recall gs (as_world w) c.args.i (vec_items w.desk.memory) (as_machine h) is c.args.drawer)
 
 pub returns-else-not-branch : goal.returns-else-not-branch
 returns-else-not-branch c = λ gs.
     let w = c.args.self.now in
-    let h = c.index-mut.result.now in
-    let is = hut_at w.huts c.args.i h c.requires c.index-mut.ensures.value in
-    tried (vec_items w.huts) (as_world w) c.args.i h _ _ _ _ is c.in-ok-recall.ensures c.if-not-branch.false
+    let h = c.index_mut.result.now in
+    let is = hut_at w.huts c.args.i h c.requires c.index_mut.ensures.value in
+    tried (vec_items w.huts) (as_world w) c.args.i h _ _ _ _ is c.in_ok-recall.ensures c.if-not-branch.false
     ∙ sym (acted_recall gs (as_world w) c.args.i (vec_items w.desk.memory) (as_machine h) is c.args.drawer)

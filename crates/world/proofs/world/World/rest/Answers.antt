@@ -9,7 +9,7 @@ use Rattle.world.proofs.world.World.rest.Goals as goal
 pub returns : goal.returns
 returns c = λ gs.
     let w = c.args.self.now in
-    let h = c.index-mut.result.now in
-    let is = hut_at w.huts c.args.i h c.requires c.index-mut.ensures.value in
+    let h = c.index_mut.result.now in
+    let is = hut_at w.huts c.args.i h c.requires c.index_mut.ensures.value in
     hut_set (vec_items w.huts) (as_world w) c.args.i c.turn.new.self ∙ ap (with_machine (as_world w) c.args.i) c.turn.ensures
     ∙ sym (acted_rests gs (as_world w) c.args.i (vec_items w.desk.memory) (as_machine h) is)

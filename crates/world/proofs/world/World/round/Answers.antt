@@ -14,5 +14,5 @@ loop-j-preserved c =
     let gs = as_gauges c.args.gauges.now in
     let n = c.args.acts in
     let j = c.loop-j.j in
-    c.in-ok-bring-all.ensures ∙ ap (λ u. all_brought n gs u j) c.loop-j.invariant
+    c.in_ok-bring_all.ensures ∙ ap (λ u. all_brought n gs u j) c.loop-j.invariant
     ∙ sym (by_each_more (λ u k. all_brought n gs u k) _ j)

@@ -14,12 +14,12 @@ returns-then-at-len c =
     let le : length (vec_items w.huts) ≤ c.args.i = omega (arith, w.huts.ok.0) in
     (refl, ap (λ x. x.pending) (machine_past (vec_items w.huts) c.args.i le))
 
-pub returns-in-default : goal.returns-in-default
-returns-in-default c =
+pub returns-in_default : goal.returns-in_default
+returns-in_default c =
     let w = c.args.self.now in
     let lt : c.args.i < vec_len w.huts = omega arith in
     let seen = hut_at w.huts c.args.i c.index.result.now lt c.index.ensures in
-    (refl, ap (λ x. x.pending) seen ∙ step_none _ _ _ c.in-default.ensures)
+    (refl, ap (λ x. x.pending) seen ∙ step_none _ _ _ c.in_default.ensures)
 
 pub returns : goal.returns
 returns c =
@@ -27,5 +27,5 @@ returns c =
     let lt : c.args.i < vec_len w.huts = omega arith in
     let h = c.index.result.now in
     let seen = hut_at w.huts c.args.i h lt c.index.ensures in
-    went _ (as_world w) _ c.args.i c.in-Some.told c.step.new.desk _ _ (ap (λ x. x.memory) seen) c.in-Some.ensures c.in-ok-act.ensures
+    went _ (as_world w) _ c.args.i c.in-Some.told c.step.new.desk _ _ (ap (λ x. x.memory) seen) c.in-Some.ensures c.in_ok-act.ensures
     ∙ ap (one_step own _ (as_world w) c.args.i) (ap (λ x. x.pending) (sym seen))

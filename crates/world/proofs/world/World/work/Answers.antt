@@ -16,7 +16,7 @@ pub returns-then-not-branch : goal.returns-then-not-branch
 returns-then-not-branch c =
     let gs = as_gauges c.args.gauges.now in
     let w = as_world c.loop.self in
-    let stayed = went_not gs w (as_world c.step.new.self) c.args.i c.in-ok-step.field-0 c.in-ok-step.ensures c.if-not-branch.true in
+    let stayed = went_not gs w (as_world c.step.new.self) c.args.i c.in_ok-step.field-0 c.in_ok-step.ensures c.if-not-branch.true in
     stayed.0 ∙ sym (goes_at_rest own gs (c.args.acts - c.loop.counter) w c.args.i stayed.1) ∙ c.loop.invariant
 
 pub loop-preserved : goal.loop-preserved
@@ -26,7 +26,7 @@ loop-preserved c =
     let left = c.args.acts - (c.loop.counter + 1) in
     let more : suc (c.args.acts - (c.loop.counter + 1)) ≡ c.args.acts - c.loop.counter = omega arith in
     ap (λ u. goes left own gs u c.args.i)
-    (went_on gs w (as_world c.step.new.self) c.args.i c.in-ok-step.field-0 c.in-ok-step.ensures c.if-not-branch.false)
+    (went_on gs w (as_world c.step.new.self) c.args.i c.in_ok-step.field-0 c.in_ok-step.ensures c.if-not-branch.false)
     ∙ sym (goes_step gs w c.args.i left c.if-self.false) ∙ ap (λ n. goes n own gs w c.args.i) more ∙ c.loop.invariant
 
 pub returns : goal.returns
