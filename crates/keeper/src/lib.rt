@@ -1,5 +1,6 @@
 // One machine on real files: its drawers and the wall, kept so that a kill at any moment leaves the old or the new.
 #![tactic(auto)]
+
 mod disk;
 mod files;
 mod gauge;

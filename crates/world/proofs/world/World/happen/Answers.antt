@@ -4,9 +4,9 @@ use Rattle.machine.specs.Run.{happened}
 use Rattle.world.specs.Worlds.{as_world, took_place}
 use Rattle.world.proofs.world.World.happen.Goals as goal
 
-pub returns-in_ok-work : goal.returns-in_ok-work
+pub returns-in_ok-work-in-Works : goal.returns-in_ok-work-in-Works
 unfolding happened
-returns-in_ok-work c = c.in_ok-work.ensures ∙ ap (took_place (as_gauges c.args.gauges.now) (as_world c.args.self.now)) (sym c.in-Works.is)
+returns-in_ok-work-in-Works c = c.in_ok-work-in-Works.ensures ∙ ap (took_place (as_gauges c.args.gauges.now) (as_world c.args.self.now)) (sym c.in-Works.is)
 
 pub returns-in-Poke : goal.returns-in-Poke
 unfolding happened
