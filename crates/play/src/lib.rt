@@ -1,5 +1,6 @@
 // Rivers played whole, written out, struck and judged.
 #![tactic(auto)]
+
 pub mod course;
 mod playing;
 pub mod score;

@@ -1,5 +1,6 @@
 // Rivers as text: each kind of mistake, and a good river.
 #![tactic(auto)]
+
 #[cfg(test)]
 mod tests {
     use river::{Item, parse, parse_within};

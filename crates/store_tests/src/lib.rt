@@ -1,5 +1,6 @@
 // Records, drawers and pages on examples worked out by hand.
 #![tactic(auto)]
+
 #[cfg(test)]
 mod tests {
     use std::test::Fail;
@@ -18,8 +19,8 @@ mod tests {
     fn root_by_hand(rt: HostRuntime) -> Result<(), Fail> {
         let mut out = [9u8; 26];
         ROOT.encode(&mut out)?;
-        assert!(rt; &out[0..16] == &[2, 0, 0, 0, 0, 0, 0, 0, 2, 1, 0, 0, 0, 0, 0, 0]);
-        assert!(rt; &out[16..26] == &[112, 17, 1, 0, 0, 0, 0, 0, 9, 9]);
+        assert!(rt; &out[0..16] == [2, 0, 0, 0, 0, 0, 0, 0, 2, 1, 0, 0, 0, 0, 0, 0].as_slice());
+        assert!(rt; &out[16..26] == [112, 17, 1, 0, 0, 0, 0, 0, 9, 9].as_slice());
         assert_eq!(rt; Root::decode(&out[0..24]), ROOT);
         Ok(())
     }

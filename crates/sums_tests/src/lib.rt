@@ -17,9 +17,9 @@ mod tests {
         counts[127] = 70_000;
         let mut out = [9u8; 1540];
         encode_page(&sums, &counts, &mut out)?;
-        assert!(rt; &out[0..16] == &[2, 1, 0, 0, 0, 0, 0, 0, 0, 0, 0, 0, 0, 0, 0, 0]);
-        assert!(rt; &out[1016..1028] == &[8, 7, 6, 5, 4, 3, 2, 1, 2, 0, 0, 0]);
-        assert!(rt; &out[1532..1540] == &[112, 17, 1, 0, 9, 9, 9, 9]);
+        assert!(rt; &out[0..16] == [2, 1, 0, 0, 0, 0, 0, 0, 0, 0, 0, 0, 0, 0, 0, 0].as_slice());
+        assert!(rt; &out[1016..1028] == [8, 7, 6, 5, 4, 3, 2, 1, 2, 0, 0, 0].as_slice());
+        assert!(rt; &out[1532..1540] == [112, 17, 1, 0, 9, 9, 9, 9].as_slice());
         let mut sums_back = [1u64; 128];
         let mut counts_back = [1u64; 128];
         decode_page(&out[0..1536], &mut sums_back, &mut counts_back)?;

@@ -19,6 +19,6 @@ loop-i-preserved c =
     let here = vec_items c.loop-i.items in
     let one = vec_items c.push.new.self in
     let two = vec_items c.push-in-loop-i.new.self in
-    let turn = grown_two here one two (Brings i j) (Works j n) c.in-ok-push.ensures.items c.in-ok-push-2.ensures.items refl refl in
+    let turn = grown_two here one two (Brings i j) (Works j n) c.in_ok-push.ensures.items c.in_ok-push-2.ensures.items refl refl in
     subst (λ l. Grown old l two) (sym (in_turn_more (λ k. brings k j ∷ works j n ∷ []) i))
     (grown_both old here two (in_turn (λ k. brings k j ∷ works j n ∷ []) (up_to i)) (brings i j ∷ works j n ∷ []) c.loop-i.invariant turn)

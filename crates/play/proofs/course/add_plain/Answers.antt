@@ -8,4 +8,4 @@ use Rattle.play.proofs.course.add_plain.Goals as goal
 pub returns : goal.returns
 returns c =
     let old = vec_items c.args.items.now in
-    subst (Grown old (written_out c.args.item)) (sym c.in-ok-push.ensures.items) (grown_one old c.args.item (plain_unless c.args.item c.in-default.not-Calm))
+    subst (Grown old (written_out c.args.item)) (sym c.in_ok-push.ensures.items) (grown_one old c.args.item (plain_unless c.args.item c.in_default.not-Calm))

@@ -13,6 +13,6 @@ loop-preserved c =
     let k = c.loop.counter in
     let n = c.args.acts in
     let old = vec_items c.args.items.now in
-    let more = vec_items c.add-round.new.items in
+    let more = vec_items c.add_round.new.items in
     subst (λ l. Grown old l more) (sym (rounds_more k n))
-    (grown_both old (vec_items c.loop.items) more (all_rounds k n) (a_round n) c.loop.invariant c.in-ok-add-round.ensures)
+    (grown_both old (vec_items c.loop.items) more (all_rounds k n) (a_round n) c.loop.invariant c.in_ok-add_round.ensures)

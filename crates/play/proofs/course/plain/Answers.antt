@@ -17,10 +17,10 @@ loop-item-preserved c =
     let i = c.loop-item.item-index in
     let xs = c.args.items.now in
     let it = get_or xs i (Works 0 0) in
-    let more = vec_items c.add-plain.new.items in
+    let more = vec_items c.add_plain.new.items in
     let one = ap unrolled (take_more xs i (Works 0 0) c.loop-item-test.true) ∙ unrolled_one (take i xs) it in
     subst (λ l. Grown [] l more) (sym one)
-    (grown_both [] (vec_items c.loop-item.out) more (unrolled (take i xs)) (written_out it) c.loop-item.invariant c.in-ok-add-plain.ensures)
+    (grown_both [] (vec_items c.loop-item.out) more (unrolled (take i xs)) (written_out it) c.loop-item.invariant c.in_ok-add_plain.ensures)
 
 pub returns : goal.returns
 unfolding unrolled every

@@ -14,13 +14,13 @@ use Rattle.play.proofs.playing.play.Goals as goal
 
 pub loop-item-init : goal.loop-item-init
 unfolding unrolled all_happened
-loop-item-init c = c.in-ok-world.ensures
+loop-item-init c = c.in_ok-world.ensures
 
 pub loop-item-preserved : goal.loop-item-preserved
 loop-item-preserved c =
     let gs = as_gauges c.args.gauges.now in
     let it = get_or c.args.items.now c.loop-item.item-index (Works 0 0) in
-    c.in-ok-happen.ensures ∙ ap (λ w. took_place gs w it) c.loop-item.invariant
+    c.in_ok-happen.ensures ∙ ap (λ w. took_place gs w it) c.loop-item.invariant
     ∙ played_more gs (new_world own) c.args.items.now c.loop-item.item-index (Works 0 0) c.loop-item-test.true
 
 pub returns : goal.returns

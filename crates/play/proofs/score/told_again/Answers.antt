@@ -21,13 +21,13 @@ loop-row-preserved c =
     let rows = c.args.told.now in
     let none : Row = record { hour = 0; place = 0; sum = 0 } in
     let row = get_or rows i none in
-    let new = c.in-ok-insert.field-0 in
+    let new = c.in_ok-insert.field-0 in
     let wall = as_wall (take i rows) in
     let rest = as_wall (drop (i + 1) rows) in
     let old = c.loop-row.invariant.0 in
     let more = wall_take rows i none c.loop-row-test.true in
-    let puts = c.in-ok-insert.ensures.inserted.2 old.ordered in
-    let found = c.in-ok-insert.ensures.inserted.1 old.ordered ∙ old.right row.hour row.place in
+    let puts = c.in_ok-insert.ensures.inserted.2 old.ordered in
+    let found = c.in_ok-insert.ensures.inserted.1 old.ordered ∙ old.right row.hour row.place in
     let counted : c.if-not-branch.again ≡ c.loop-row.again + pick (not new) 1 0 =
     elim c.if-not-branch.branch [
       | then-not-branch w ↦ w.again-is ∙ ap (λ b. c.loop-row.again + pick (not b) 1 0) (sym w.if-not-branch.true)

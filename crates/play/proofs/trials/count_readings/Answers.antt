@@ -15,7 +15,7 @@ loop-gauge-preserved c =
     let x = c.gauge-item.result in
     let here : drop i gs ≡ x ∷ drop (i + 1) gs = drop_more gs i x c.loop-gauge-test.true ∙ ap (λ y. y ∷ drop (i + 1) gs) (sym c.gauge-item.is) in
     let long : c.len.result ≡ length (as_row (vec_items x)) = c.len.ensures ∙ x.ok.0 ∙ sym (length_each as_reading (vec_items x)) in
-    let more : c.saturating-add-readings.result ≡ plus n (length (as_row (vec_items x))) = c.saturating-add-readings.ensures ∙ ap (plus n) long in
+    let more : c.saturating_add-readings.result ≡ plus n (length (as_row (vec_items x))) = c.saturating_add-readings.ensures ∙ ap (plus n) long in
     ap (λ m. readings_after m (as_gauges (drop (i + 1) gs))) more ∙ ap (λ l. readings_after n (as_gauges l)) (sym here) ∙ c.loop-gauge.invariant
 
 pub returns : goal.returns

@@ -15,9 +15,9 @@ returns c wrong untold =
     let told = c.args.world.now.told in
     record {
       worlds = refl;
-      readings = c.count-readings.ensures;
+      readings = c.count_readings.ensures;
       told = c.len.ensures ∙ told.ok.0 ∙ sym (length_each as_told (vec_items told));
-      again = c.in-ok-told-again.ensures ∙ ap (λ l. told_again (as_wall l)) c.as-slice.ensures.value;
+      again = c.in_ok-told_again.ensures ∙ ap (λ l. told_again (as_wall l)) c.as_slice.ensures.value;
       wrong = wrong;
       untold = (λ e. untold.0 (sym c.len-2.ensures ∙ e), λ e. c.len-2.ensures ∙ untold.1 e);
       faults = c.from.ensures ∙ one_or_none c.args.world.now.fault;

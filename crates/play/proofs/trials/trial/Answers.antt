@@ -16,8 +16,8 @@ unfolding EverSafe Safe
 returns c =
     let gs = as_gauges c.args.gauges.now in
     let its = c.args.items.now in
-    let is : as_world c.in-ok-world.world ≡ played gs its = c.in-ok-world.ensures.world in
-    let judged = c.in-ok-judgement.ensures in
+    let is : as_world c.in_ok-world.world ≡ played gs its = c.in_ok-world.ensures.world in
+    let judged = c.in_ok-judgement.ensures in
     let said = judged.verdict ∙ ap (verdict_of gs) is in
     record {
       verdict = said;
@@ -26,5 +26,5 @@ returns c =
           let w = played gs its in
           let told = pick (all_told gs w.told) Right Untold in
           said ∙ ap (λ b. pick b Fault (pick (every (is_right gs) w.told) told Wrong)) safe.0 ∙ ap (λ b. pick b told Wrong) safe.1;
-      score = subst (λ w. Scores gs w c.in-ok-score.score) is (c.in-ok-score.ensures judged.wrong judged.untold);
+      score = subst (λ w. Scores gs w c.in_ok-score.score) is (c.in_ok-score.ensures judged.wrong judged.untold);
     }
