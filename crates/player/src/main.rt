@@ -10,16 +10,18 @@ use play::{Judgement, Verdict};
 use player_args::Command;
 use river::River;
 use std::io::Read;
+use std::process::ExitCode;
 use std::time::Instant;
 use std::{env, fs};
 use world::World;
 
-fn main(rt: HostRuntime) -> anyhow::Result<()> {
-    if let Err(error) = run(&rt) {
-        eprintln!(rt; "player: {error}")?;
-        return Err(error);
-    }
-    Ok(())
+// What is wrong is said once, on standard error; the status is then 1.
+fn main(rt: HostRuntime) -> ExitCode {
+    let Err(error) = run(&rt) else {
+        return ExitCode::SUCCESS;
+    };
+    let _ = eprintln!(rt; "player: {error}");
+    ExitCode::FAILURE
 }
 
 fn run(rt: &HostRuntime) -> anyhow::Result<()> {

@@ -1,6 +1,8 @@
 // One machine on real files; its wires are standard input and output.
 #![tactic(auto)]
+
 use keeper::{Options, Request, Station};
+use std::process::ExitCode;
 use std::{env, fmt};
 
 const USAGE: &str = "usage: station MACHINE --drawers DIR --gauge FILE --wall FILE
@@ -17,12 +19,13 @@ from machine I, or `poke`. Standard output is what goes out: `to J HEX`.
 It works till it rests, then after each line, and ends with its input.
 It may be killed at any moment and started again on the same files.";
 
-fn main(rt: HostRuntime) -> anyhow::Result<()> {
-    if let Err(error) = run(&rt) {
-        eprintln!(rt; "station: {error}")?;
-        return Err(error);
-    }
-    Ok(())
+// What is wrong is said once, on standard error; the status is then 1.
+fn main(rt: HostRuntime) -> ExitCode {
+    let Err(error) = run(&rt) else {
+        return ExitCode::SUCCESS;
+    };
+    let _ = eprintln!(rt; "station: {error}");
+    ExitCode::FAILURE
 }
 
 fn run(rt: &HostRuntime) -> anyhow::Result<()> {

@@ -1,8 +1,10 @@
 // Prints the rows of a wall, each once, by hour and place: all, or some, or a chart of one place.
 #![tactic(auto)]
+
 use rows::Row;
 use std::alloc::{AllocError, AllocFailed};
 use std::io::Read;
+use std::process::ExitCode;
 use std::{env, fmt, fs, io};
 use wall_reader::{
     ChartMistake, Complaint, Form, Mark, Misuse, WallMistake, chart, chosen, parse_words,
@@ -77,12 +79,13 @@ impl fmt::Display for Failure {
     }
 }
 
-fn main(rt: HostRuntime) -> Result<(), Failure> {
-    if let Err(failure) = run(&rt) {
-        eprintln!(rt; "wall: {failure}")?;
-        return Err(failure);
-    }
-    Ok(())
+// What is wrong is said once, on standard error; the status is then 1.
+fn main(rt: HostRuntime) -> ExitCode {
+    let Err(failure) = run(&rt) else {
+        return ExitCode::SUCCESS;
+    };
+    let _ = eprintln!(rt; "wall: {failure}");
+    ExitCode::FAILURE
 }
 
 fn run(rt: &HostRuntime) -> Result<(), Failure> {

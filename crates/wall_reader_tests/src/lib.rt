@@ -1,5 +1,6 @@
 // Walls as text, what is asked of them, and charts: good ones, and each kind of mistake.
 #![tactic(auto)]
+
 #[cfg(test)]
 mod tests {
     use rows::Row;

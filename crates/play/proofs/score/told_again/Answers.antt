@@ -1,4 +1,5 @@
 use Rattle.std.proofs.Common.{◌≡◌, ◌+◌, ◌≤◌, not, get_or, take, drop, sym, ap, ◌∙◌, subst, ap₂, add-zero, zero-add, arith}
+use Rattle.std.proofs.Math.Bool.{not-not}
 use Rattle.std.proofs.lemmas.List.{drop_all, drop_more}
 use Rattle.sums.specs.Sums.{pick, each}
 use Rattle.rows.specs.Walls.{as_told, as_wall, Marks}
@@ -12,7 +13,7 @@ use Rattle.play.proofs.score.told_again.Goals.{then-not-branch, else-not-branch}
 pub loop-row-init : goal.loop-row-init
 unfolding each
 loop-row-init c =
-    (no_marks c.new-seen.result c.new-seen.ensures.keys c.new-seen.ensures.units, omega arith, zero-add (told_again (as_wall c.args.told.now)))
+    (no_marks c.new-seen.result c.new-seen.ensures.empty c.new-seen.ensures.ordered, omega arith, zero-add (told_again (as_wall c.args.told.now)))
 
 pub loop-row-preserved : goal.loop-row-preserved
 unfolding each
@@ -26,8 +27,7 @@ loop-row-preserved c =
     let rest = as_wall (drop (i + 1) rows) in
     let old = c.loop-row.invariant.0 in
     let more = wall_take rows i none c.loop-row-test.true in
-    let puts = c.in_ok-insert.ensures.inserted.2 old.ordered in
-    let found = c.in_ok-insert.ensures.inserted.1 old.ordered ∙ old.right row.hour row.place in
+    let found = ap not c.in_ok-insert.ensures.added ∙ not-not _ ∙ old.right row.hour row.place in
     let counted : c.if-not-branch.again ≡ c.loop-row.again + pick (not new) 1 0 =
     elim c.if-not-branch.branch [
       | then-not-branch w ↦ w.again-is ∙ ap (λ b. c.loop-row.again + pick (not b) 1 0) (sym w.if-not-branch.true)
@@ -39,7 +39,7 @@ loop-row-preserved c =
       | else-not-branch w ↦ omega (arith, w.again-is, c.loop-row.invariant.1)
     ] in
     let here = ap (λ l. c.loop-row.again + again_after wall (as_wall l)) (sym (drop_more rows i none c.loop-row-test.true)) ∙ c.loop-row.invariant.2 in (
-      subst (λ l. Marks l c.insert.new.self) (sym more) (marked wall (as_told row) c.loop-row.seen c.insert.new.self old puts.0 puts.1),
+      subst (λ l. Marks l c.insert.new.self) (sym more) (marked wall (as_told row) c.loop-row.seen c.insert.new.self old c.insert.ensures.ordered c.in_ok-insert.ensures.updates.0),
       few,
       ap₂ (λ n l. n + again_after l rest) counted more ∙ again_step c.loop-row.again (told_again (as_wall rows)) wall rest (as_told row) (not new) found here,
     )
