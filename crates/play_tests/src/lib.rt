@@ -1,5 +1,6 @@
 // Rivers played, struck and made at random; texts that are read back; and the words of the command line.
 #![tactic(auto)]
+
 #[cfg(test)]
 mod tests {
     use chance::Random;

@@ -1,5 +1,6 @@
 // Plays rivers: one from a file, many made at random, or one struck after every act.
 #![tactic(auto)]
+
 mod lightning;
 mod many;
 mod progress;

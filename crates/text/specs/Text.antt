@@ -1,7 +1,7 @@
 -- Text as bytes: its lines, the words of a line, and the number that a word writes. Assumes nothing: these are definitions.
 use Rattle.std.specs.Prelude.{ℕ, ◌+◌, ◌-◌, ◌*◌, Bool, true, cond, not, ◌&&◌, ◌||◌, List, [], ◌∷◌, Some, None, Option, ◌==◌, nat_eq, nat_le, nat_lt}
 use Rattle.text.specs.declared.read.Stop.{Stop}
-use Rattle.text.specs.declared.read.Stop.TheVariants.{LineEnd, Comment, Dot, Blank, Solid}
+use Rattle.text.specs.declared.read.Stop.TheVariants.{LineEnd, Comment, Blank, Solid}
 
 abbrev pub Bytes : Type 0
 Bytes = List ℕ
@@ -13,7 +13,6 @@ blank b = b == 32 || (b == 9 || b == 13)
 abbrev pub stops : Stop → ℕ → Bool
 stops LineEnd b = b == 10
 stops Comment b = b == 35
-stops Dot b = b == 46
 stops Blank b = blank b
 stops Solid b = not (blank b)
 

@@ -9,7 +9,6 @@ ghost use Rattle.text.specs.Text as spec;
 enum Stop {
     LineEnd,
     Comment,
-    Dot,
     Blank,
     Solid,
 }
@@ -27,7 +26,6 @@ impl Stop {
         match self {
             Stop::LineEnd => byte == b'\n',
             Stop::Comment => byte == b'#',
-            Stop::Dot => byte == b'.',
             Stop::Blank => is_blank(byte),
             Stop::Solid => !is_blank(byte),
         }
@@ -74,7 +72,11 @@ pub fn until_dot(word: &[u8]) -> (&[u8], &[u8])
     ensures front { result.0.now ≡ before (λ b. nat_eq b 46) word.now }
     ensures back { result.1.now ≡ from (λ b. nat_eq b 46) word.now }
 {
-    cut(word, Stop::Dot)
+    let mut end = 0;
+    while end < word.len() && word[end] != b'.' {
+        end += 1;
+    }
+    word.split_at(end)
 }
 
 // The first word and what follows it, or none where only blanks are left.

@@ -1,5 +1,6 @@
 // Long rivers of one gauge, played under lightning: the wall is right, and all is told.
 #![tactic(auto)]
+
 #[cfg(test)]
 mod tests {
     use river::{Item, parse};
