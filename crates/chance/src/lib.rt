@@ -3,8 +3,8 @@
 
 mod random;
 mod rivers;
-mod text;
+mod spelling;
 
 pub use random::Random;
 pub use rivers::random_river;
-pub use text::river_text;
+pub use spelling::river_text;

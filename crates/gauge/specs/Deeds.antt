@@ -1,5 +1,5 @@
 -- What a gauge's machine does, and how the code answers it. Assumes nothing: these are definitions.
-use Rattle.std.specs.Prelude.{◌≡◌, ℕ, List, [], ◌∷◌, ◌++◌, length, drop}
+use Rattle.std.specs.Prelude.{◌≡◌, ℕ, List, ◌++◌, length, drop}
 use Rattle.gauge.specs.declared.act.Act.{Act}
 use Rattle.gauge.specs.declared.act.Act.TheVariants as act
 

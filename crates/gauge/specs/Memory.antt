@@ -1,5 +1,5 @@
 -- The memory of a machine: eight named cells, then the sums and the counts of the hour at hand. Assumes nothing: these are definitions.
-use Rattle.std.specs.Prelude.{ℕ, zero, suc, ◌+◌, ◌-◌, ◌*◌, ◌/◌, Bool, true, false, cond, ◌&&◌, List, [], ◌∷◌, ◌++◌, length, take, drop, set, replicate, slice_index}
+use Rattle.std.specs.Prelude.{ℕ, ◌+◌, ◌*◌, List, take, drop, slice_index}
 use Rattle.sums.specs.Cells.{places, slots}
 
 abbrev pub sums_at : ℕ

@@ -1,7 +1,6 @@
 -- Lists taken over element by element, by the definitions' own ways to look into a list and to set an element.
 use Rattle.std.proofs.Common.{◌≡◌, ℕ, zero, suc, ◌<◌, ◌≤◌, List, [], ◌∷◌, ◌++◌, length, get_or, drop, set, refl, ap, arith}
 use Rattle.sums.specs.Sums.{each}
-use Rattle.sums.specs.Sums as given
 use Rattle.sums.specs.Readings.{as_row}
 use Rattle.sums.specs.declared.reading.Reading.{Reading}
 use Rattle.machine.specs.Run.{comes, first_reading, set_nth, nth_row, so_many_of}

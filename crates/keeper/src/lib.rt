@@ -3,8 +3,8 @@
 
 mod disk;
 mod files;
-mod gauge;
 mod options;
+mod own_gauge;
 mod station;
 mod wall;
 

@@ -1,7 +1,7 @@
 // A machine at work: each act is done on the files before the next step.
 use crate::disk::Disk;
-use crate::gauge::readings;
 use crate::options::Options;
+use crate::own_gauge::readings;
 use crate::wall::Wall;
 use anyhow::anyhow;
 use hut::{Desk, Effect, Hut};

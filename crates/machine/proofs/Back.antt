@@ -1,5 +1,5 @@
 -- What a step tells outside says which act it was.
-use Rattle.std.proofs.Common.{◌≡◌, ℕ, ◌+◌, ◌*◌, ◌/◌, ◌%◌, ◌<◌, ◌≤◌, List, [], ◌∷◌, ◌++◌, length, get_or, take, drop, Some, refl, ap, ◌∙◌, ap₂, mod-eq_of_lt, arith, lit<, length-append, length-drop}
+use Rattle.std.proofs.Common.{◌≡◌, ℕ, ◌+◌, ◌*◌, ◌/◌, ◌%◌, ◌<◌, ◌≤◌, List, ◌++◌, length, take, drop, Some, ap, ◌∙◌, ap₂, mod-eq_of_lt, arith, lit<, length-append, length-drop}
 use lib.Seq.{take-append_seam}
 use native.Mathlib.Nat.{mul-add-div, div-eq_of_lt, mul-add-mod_self_left}
 use Rattle.machine.specs.Run as run

@@ -1,5 +1,5 @@
 -- Boot: a machine that wakes recalls from its drawers the root record, the pages that it names, and the cursor. Assumes nothing: these are definitions.
-use Rattle.std.specs.Prelude.{ℕ, ◌+◌, ◌*◌, Bool, true, false, cond, ◌&&◌, List, length, set, replicate, Some, None, Option, ◌==◌, nat_lt, slice_set}
+use Rattle.std.specs.Prelude.{ℕ, ◌+◌, ◌*◌, Bool, cond, ◌&&◌, List, length, replicate, Some, None, Option, ◌==◌, nat_lt, slice_set}
 use Rattle.sums.specs.Cells.{pages, slots}
 use Rattle.sums.specs.Digits.{fits}
 use Rattle.sums.specs.Pages.{page_sums, page_counts, page_length, sum_width, count_width}

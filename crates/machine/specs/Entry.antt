@@ -1,9 +1,9 @@
 -- The machine, and how a step of it is told to the world outside. Assumes nothing: these are definitions.
-use Rattle.std.specs.Prelude.{◌≡◌, ℕ, ◌+◌, ◌*◌, Bool, true, false, ◌&&◌, List, [], ◌∷◌, ◌++◌, length, drop, replicate, ◌==◌, nat_le}
+use Rattle.std.specs.Prelude.{◌≡◌, ℕ, ◌+◌, ◌*◌, Bool, true, false, ◌&&◌, List, ◌∷◌, ◌++◌, length, drop, replicate, ◌==◌, nat_le}
 use Rattle.sums.specs.Sums.{pick}
 use Rattle.gauge.specs.Memory.{cells}
 use Rattle.machine.specs.Machine.{machine_step}
-use Rattle.machine.specs.Run.{Engine, Event, wakes, comes, later, ends, letter, slot, next, Act, more, from, let_go, sends, keep, recall, tells, rests, Step}
+use Rattle.machine.specs.Run.{Engine, Event, wakes, comes, later, ends, letter, slot, next, Act, more, from, let_go, sends, keep, recall, tells, rests}
 use Rattle.machine.specs.declared.Told.{Told}
 use Rattle.machine.specs.declared.Told.TheVariants.{More, From, LetGo, Sends, Keep, Recall, Tells, Rests, No}
 

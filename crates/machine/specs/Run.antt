@@ -1,7 +1,7 @@
 -- Eight machines, each beside its gauge, with slots that keep what they're given, and letters between them; any may stop at any time. Assumes nothing:
 -- these are definitions.
-use Rattle.std.specs.Prelude.{◌≡◌, ℕ, zero, suc, ◌+◌, ◌-◌, ◌*◌, ◌/◌, ◌%◌, ◌<◌, ◌≤◌, Bool, true, false, not, ◌&&◌, ltb, List, [], ◌∷◌, ◌++◌, length, drop, ◌==◌, nat_eq, nat_le, nat_lt}
-use Rattle.sums.specs.Sums.{pick, or, every, any, those, each, none_of, Reading, Gauges, ToldSum, is_right, all_told, gauges_fine}
+use Rattle.std.specs.Prelude.{◌≡◌, ℕ, zero, suc, ◌+◌, ◌≤◌, Bool, true, false, not, ◌&&◌, ltb, List, [], ◌∷◌, ◌++◌, length, drop, ◌==◌, nat_eq, nat_le, nat_lt}
+use Rattle.sums.specs.Sums.{pick, or, every, those, none_of, Reading, Gauges, ToldSum}
 
 -- what a machine is told
 pub data Event : Type 0 where

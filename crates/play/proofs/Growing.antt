@@ -1,6 +1,5 @@
 -- Items that more is added to.
 use Rattle.std.proofs.Common.{◌≡◌, ℕ, zero, suc, ◌+◌, true, List, [], ◌∷◌, ◌++◌, sym, ap, ◌∙◌, subst, append_assoc, append-nil, add-one}
-use Rattle.sums.specs.Sums.{every}
 use Rattle.sums.proofs.Everys.{every_last}
 use Rattle.machine.specs.Run as run
 use Rattle.machine.specs.Run.{up_to}

@@ -1,32 +1,30 @@
 -- All that is promised, of the machine of one gauge, where only the first gauge has readings.
-use Rattle.std.proofs.Common.{◌≡◌, ℕ, zero, suc, ◌+◌, ◌-◌, ◌*◌, ◌<◌, ◌≤◌, Bool, true, false, not, ◌⊎◌, List, [], ◌∷◌, ◌++◌, length, get_or, replicate, sym, refl, ap, ◌∙◌, subst, inl, inr, ⊎_elim, arith, lit<}
+use Rattle.std.proofs.Common.{◌≡◌, ℕ, zero, suc, ◌+◌, ◌*◌, ◌<◌, ◌≤◌, Bool, true, not, List, [], ◌∷◌, length, get_or, replicate, sym, refl, ap, ◌∙◌, subst, inr, ⊎_elim, arith, lit<}
 use Rattle.std.proofs.lemmas.Bool.{cases_lt, and_from}
-use Rattle.sums.specs.Cells.{places}
 use Rattle.sums.specs.Parts.{no_reading}
-use Rattle.sums.specs.Sums.{Reading, Gauges, ToldSum, every, hour_of, has_told, all_of, all_told, gauges_fine, is_right, none_of, those}
+use Rattle.sums.specs.Sums.{Reading, Gauges, ToldSum, every, hour_of, has_told, all_told, gauges_fine, none_of, those}
 use Rattle.sums.specs.Tables.{zero_table}
 use Rattle.store.specs.Drawers.{Drawers}
 use Rattle.store.specs.Kept.{Kept, kept, kept_of}
 use Rattle.store.specs.Records.{set_number, zero_root, zero_cursor, RootFits, CursorFits}
-use Rattle.store.specs.declared.records.PageSet.TheVariants as page_set
 use Rattle.store.specs.Laws.{EmptyLaw}
 use Rattle.store.proofs.Checkpoints.{empty}
-use Rattle.machine.specs.Run.{World, Machine, machine, machine_at, set_nth, nth_row, with_machine, Event, wakes, next, one_step, poked, delivered, fallen, touches, Item, all_happened, calm, new_world, so_many_of, round}
+use Rattle.machine.specs.Run.{World, Machine, machine, machine_at, nth_row, with_machine, Event, wakes, next, one_step, touches, Item, all_happened, calm, new_world, so_many_of, round}
 use Rattle.machine.specs.Entry.{own}
 use Rattle.machine.proofs.Steadies.{steady}
 use Rattle.promise.specs.Promise.{Safe, Whole, core}
 use Rattle.promise.specs.Released.{ReleasedKept, AllReleased}
 use Rattle.promise.specs.Ever.{EverSafe}
 use Rattle.promise.proofs.Acts.{on_poked}
-use Rattle.promise.proofs.Calm.{Rests, AllRest, round_rests, delivered_none}
+use Rattle.promise.proofs.Calm.{AllRest, round_rests, delivered_none}
 use Rattle.promise.proofs.Induction.{Keeps, all_good, calm_good}
-use Rattle.promise.proofs.Knows.{hour_at, place_at, IsTold, Shut, CursorTrue, Holds}
+use Rattle.promise.proofs.Knows.{hour_at, IsTold, Shut, CursorTrue, Holds}
 use Rattle.promise.proofs.Machines.{past_at, set_past, none_and_some}
 use Rattle.promise.proofs.Phases.{steps_well}
 use Rattle.promise.proofs.Ranks.{rank}
 use Rattle.promise.proofs.Rows.{row_fine, first_is_all, none_nil}
 use Rattle.promise.proofs.Phases.{at_most_one}
-use Rattle.promise.proofs.Runs.{Drawn, Booted, Runs, waking, at_root, at_page, at_cursor, at_rooted, at_placed, at_released, at_comes, at_ends, at_later, at_saved, at_told, at_noted, at_closed, at_done, small, drawn_of}
+use Rattle.promise.proofs.Runs.{Drawn, Runs, waking, at_root, at_page, at_cursor, at_rooted, at_placed, at_released, at_comes, at_ends, at_later, at_saved, at_told, at_noted, at_closed, at_done, small, drawn_of}
 use Rattle.promise.proofs.Start.{numbered_at, length_numbered, length_so_many}
 use Rattle.promise.proofs.Views.{mem}
 use Rattle.promise.proofs.Turns.{Good, Stepped, MachineRuns, put_good, rank_in}

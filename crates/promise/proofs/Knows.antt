@@ -1,10 +1,10 @@
 -- What a machine knows of its gauge's row and of the wall: an hour at hand or none, an hour that is over, and a cursor that is true. Nothing of it counts events.
-use Rattle.std.proofs.Common.{◌≡◌, ℕ, zero, suc, ◌+◌, ◌-◌, ◌<◌, ◌≤◌, Bool, true, false, cond, ◌&&◌, eqb, ltb, ◌⊎◌, List, [], ◌∷◌, ◌++◌, length, get_or, sym, refl, ap, ◌∙◌, subst, inl, inr, ⊎_elim, add-one, arith}
+use Rattle.std.proofs.Common.{◌≡◌, ℕ, zero, suc, ◌+◌, ◌-◌, ◌<◌, ◌≤◌, true, cond, ◌&&◌, eqb, ltb, ◌⊎◌, List, [], ◌∷◌, ◌++◌, length, get_or, sym, refl, ap, ◌∙◌, subst, inl, inr, ⊎_elim, add-one, arith}
 use Rattle.std.proofs.lemmas.Bool.{cases_eq, cases_lt, eq-eqb, ne_eqb, lt-ltb, and_from, cond-true, cond-false}
 use Rattle.sums.specs.Cells.{places, cell_of, place_of}
 use Rattle.sums.specs.Parts.{no_reading, part_of, count_of}
-use Rattle.sums.specs.Sums.{Reading, hour_of, rising, every, any, those, added_up, belongs, a_reading, ToldSum, has_told, Gauges, is_right, all_of}
-use Rattle.sums.specs.Tables.{TablesOf, AddsUp, zero_table, entry_of, with_sum, with_count, next_reading}
+use Rattle.sums.specs.Sums.{Reading, hour_of, any, those, added_up, belongs, ToldSum, has_told}
+use Rattle.sums.specs.Tables.{TablesOf, zero_table, entry_of, with_sum, with_count, next_reading}
 use Rattle.sums.proofs.Parts.{part_over, part_of_all, comes_counted, counted_comes}
 use Rattle.sums.proofs.Places.{place_back, cell_back, place_fits, cell_fits}
 use Rattle.sums.proofs.Rising.{rising_hour}

@@ -1,5 +1,5 @@
 -- Each step of a machine that runs as it should leaves one, with fewer acts left.
-use Rattle.std.proofs.Common.{◌≡◌, ℕ, zero, suc, ◌+◌, ◌-◌, ◌*◌, ◌<◌, ◌≤◌, true, false, ◌&&◌, ◌⊎◌, List, [], ◌∷◌, ◌++◌, length, get_or, set, Some, None, Ok, sym, refl, ap, ◌∙◌, subst, inl, inr, ⊎_elim, add-one, arith, lit<}
+use Rattle.std.proofs.Common.{◌≡◌, ℕ, zero, suc, ◌+◌, ◌-◌, ◌*◌, ◌<◌, ◌≤◌, true, ◌⊎◌, List, [], ◌∷◌, ◌++◌, length, get_or, set, Some, None, Ok, sym, refl, ap, ◌∙◌, subst, inl, inr, ⊎_elim, add-one, arith, lit<}
 use Rattle.std.proofs.lemmas.List.{length-set}
 use Rattle.std.proofs.lemmas.Bool.{and_from, and_parts, eq-eqb, eqb-true, le-ltb, cond-true, cond-false, cases_lt, cases_eq}
 use Rattle.sums.specs.Cells.{places, pages, cell_of, place_of}
@@ -9,8 +9,8 @@ use Rattle.sums.specs.Tables.{zero_table, entry_of, next_reading, TablesOf, with
 use Rattle.sums.specs.declared.tables.Entry.{Entry}
 use Rattle.sums.proofs.Places.{cell_fits}
 use Rattle.sums.proofs.Taken.{tables_zeros, entry_fits}
-use Rattle.store.specs.Drawers.{Drawers, drawer_at, root_drawer, cursor_drawer, page_drawer}
-use Rattle.store.specs.Kept.{Kept, kept_of, sums_in, counts_in}
+use Rattle.store.specs.Drawers.{Drawers, drawer_at, page_drawer}
+use Rattle.store.specs.Kept.{Kept, kept_of, sums_in}
 use Rattle.store.proofs.Boots.{boot_law}
 use Rattle.store.specs.Laws.{PagesKept, cut_bytes, ReadBack}
 use Rattle.store.proofs.Checkpoints.{shadow_other, page_more}
@@ -18,7 +18,7 @@ use Rattle.store.proofs.Numbered.{page_has_drawer, page_apart, page_within}
 use Rattle.store.specs.Records.{set_number, shadow_of, root, root_bytes, root_of, cursor, cursor_bytes}
 use Rattle.store.specs.declared.records.PageSet.{PageSet}
 use Rattle.store.specs.declared.records.PageSet.TheVariants as page_set
-use Rattle.machine.specs.Run.{World, Machine, machine, machine_at, nth_row, Event, wakes, comes, later, ends, slot, next, one_step, keep}
+use Rattle.machine.specs.Run.{World, machine, machine_at, nth_row, Event, wakes, comes, later, ends, slot, next, one_step, keep}
 use Rattle.machine.specs.Entry.{own}
 use Rattle.machine.specs.Machine.{as_step}
 use Rattle.machine.specs.Boot.{page_fits}
@@ -31,7 +31,7 @@ use Rattle.promise.proofs.Drawing.{drawn_cursor, kept_cursor, drawn_page, kept_p
 use Rattle.promise.proofs.Drawing.{cursor_bytes_fit, root_bytes_fit, page_bytes_fit, page_there, set_named_back, open_of}
 use Rattle.promise.proofs.Machines.{none_and_some}
 use Rattle.promise.proofs.Ranks.{rank}
-use Rattle.promise.proofs.Rows.{Fine, row_fine, fits_at, row_is_all}
+use Rattle.promise.proofs.Rows.{row_fine, fits_at, row_is_all}
 use Rattle.promise.proofs.Runs.{Drawn, Booted, Runs, waking, at_root, at_page, at_cursor, at_rooted, at_placed, at_released, at_comes, at_ends, at_later, at_saved, at_told, at_noted, at_closed, at_done, small, booted_more}
 use Rattle.promise.proofs.Turns.{Good, Stepped, keeps, recalls, froms, releases, rests_now, tells_row, asks_more}
 use Rattle.promise.proofs.Views.{mem, does, start_mem, step_wakes, step_placed, step_released, step_rooted, step_told, step_done, step_closed, step_takes, step_over, step_ends_open, step_ends_shut, step_noted, tell_cell, tell_close, cell_found, cells_none, first_cell, step_filled, step_saved, step_saved_root, step_root_none, step_root_some, step_page, step_page_last, step_cursor}

@@ -1,5 +1,5 @@
 -- How many acts a machine has left at most: readings left, and within one the phases, which come in one order.
-use Rattle.std.proofs.Common.{ℕ, ◌+◌, ◌-◌, ◌*◌, cond, eqb, List, [], ◌∷◌, get_or}
+use Rattle.std.proofs.Common.{ℕ, ◌+◌, ◌-◌, ◌*◌, cond, eqb, List, [], ◌∷◌}
 use Rattle.gauge.specs.Memory.{phase_in, index_in, begun_in, pos_in, cursor_cell_in, asks_root, asks_page, placed, released, saved, rooted, told, noted, closed}
 use Rattle.machine.specs.Run.{Event, wakes, comes, later, ends, letter, slot, next}
 

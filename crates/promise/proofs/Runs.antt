@@ -1,5 +1,5 @@
 -- What holds of a machine whenever it is looked at: its drawers stand for something true, and so does its memory once it has booted. By what it will be told next, and by its phase.
-use Rattle.std.proofs.Common.{◌≡◌, ℕ, zero, suc, ◌+◌, ◌-◌, ◌*◌, ◌<◌, ◌≤◌, ◌⊎◌, List, [], ◌∷◌, ◌++◌, length, get_or, Some, sym, refl, ap, ◌∙◌, subst, inl, inr, ⊎_elim, arith}
+use Rattle.std.proofs.Common.{◌≡◌, ℕ, suc, ◌+◌, ◌<◌, ◌≤◌, ◌⊎◌, List, [], ◌∷◌, ◌++◌, length, get_or, Some}
 use Rattle.sums.specs.Cells.{places, pages}
 use Rattle.sums.specs.Parts.{no_reading}
 use Rattle.sums.specs.Sums.{Reading, ToldSum}
@@ -12,7 +12,7 @@ use Rattle.store.specs.declared.records.PageSet.TheVariants as page_set
 use Rattle.gauge.specs.Memory.{asks_root, asks_page, asks_cursor, placed, released, reading, saved, rooted, told, noted, closed, done}
 use Rattle.machine.specs.Run.{Event, wakes, comes, later, ends, slot, next}
 use Rattle.machine.specs.Entry.{own}
-use Rattle.promise.proofs.Knows.{Holds, CursorTrue, Over, Shut, Open, holds_more, cursor_more, open_more, shut_more}
+use Rattle.promise.proofs.Knows.{Holds, CursorTrue, Over, holds_more, cursor_more}
 use Rattle.promise.proofs.Views.{mem}
 
 abbrev pub small : ℕ → Type 0

@@ -1,5 +1,5 @@
 -- Only the first gauge has readings just where no other is named.
-use Rattle.std.proofs.Common.{◌≡◌, ℕ, ◌+◌, ◌<◌, ◌≤◌, Bool, true, false, cond, ◌&&◌, eqb, List, [], ◌∷◌, length, get_or, drop, Ok, Err, vec_items, vec_len, Result, Vec, sym, refl, ap, ◌∙◌}
+use Rattle.std.proofs.Common.{◌≡◌, ℕ, ◌+◌, ◌<◌, ◌≤◌, Bool, true, false, cond, eqb, List, [], ◌∷◌, length, get_or, drop, Ok, Err, vec_items, vec_len, Result, Vec, sym, refl, ap, ◌∙◌}
 use lib.Dec.{eqb-suc-zero}
 use Rattle.std.proofs.lemmas.List.{drop_more, drop_all}
 use Rattle.sums.specs.Sums.{Gauges, none_of, every, each}

@@ -1,5 +1,5 @@
 -- The first gauge, from number n on, that has readings. Assumes nothing: these are definitions.
-use Rattle.std.specs.Prelude.{ℕ, ◌+◌, cond, List, [], ◌∷◌, drop, Ok, Err, Result}
+use Rattle.std.specs.Prelude.{ℕ, ◌+◌, cond, [], ◌∷◌, drop, Ok, Err, Result}
 use Rattle.sums.specs.Sums.{Gauges, none_of}
 use Rattle.scope.specs.declared.OtherGauge.{OtherGauge}
 

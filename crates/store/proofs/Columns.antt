@@ -1,5 +1,5 @@
 -- The columns that a drawer stands for: their lengths, and those of a page.
-use Rattle.std.proofs.Common.{◌≡◌, ℕ, ◌+◌, ◌*◌, ◌^◌, ◌<◌, Bool, true, cond, List, [], length, get_or, drop, replicate, is_ok, ap, ◌∙◌, arith, length-drop}
+use Rattle.std.proofs.Common.{◌≡◌, ℕ, ◌+◌, ◌*◌, ◌^◌, ◌<◌, Bool, true, cond, List, length, get_or, drop, replicate, is_ok, ap, ◌∙◌, arith, length-drop}
 use lib.ListN.{length-replicate}
 use Rattle.std.proofs.lemmas.List.{get_or-take, get_or-drop, length-take-le}
 use Rattle.std.proofs.lemmas.Bool.{eq-eqb, lt-ltb, cond_both}

@@ -1,5 +1,5 @@
 -- Drawers, each with its bytes, and which holds what. Assumes nothing: these are definitions.
-use Rattle.std.specs.Prelude.{◌≡◌, ℕ, ◌+◌, ◌<◌, cond, List, [], set, Some, None, Option, ◌≢◌, nat_lt, slice_index_or, slice_set}
+use Rattle.std.specs.Prelude.{◌≡◌, ℕ, ◌+◌, ◌<◌, cond, List, [], Some, None, Option, ◌≢◌, nat_lt, slice_index_or, slice_set}
 use Rattle.sums.specs.Cells.{pages}
 use Rattle.store.specs.declared.records.PageSet.{PageSet}
 use Rattle.store.specs.declared.records.PageSet.TheVariants.{First, Second}

@@ -1,7 +1,7 @@
 -- Huts as machines of the definitions: one of them looked at, and one set.
-use Rattle.std.proofs.Common.{◌≡◌, ℕ, zero, suc, ◌<◌, ◌≤◌, true, false, List, [], ◌∷◌, length, get_or, set, vec_items, vec_len, Vec, sym, refl, ap, ◌∙◌, subst, arith}
+use Rattle.std.proofs.Common.{◌≡◌, ℕ, zero, suc, ◌<◌, ◌≤◌, true, false, List, [], ◌∷◌, length, get_or, set, vec_items, vec_len, Vec, sym, refl, ap, ◌∙◌, arith}
 use Rattle.std.specs.declared.alloc.Global.{Global}
-use Rattle.sums.specs.Sums.{each, pick, none_of}
+use Rattle.sums.specs.Sums.{each, none_of}
 use Rattle.machine.specs.Run as run
 use Rattle.machine.specs.Run.{machine, machine_at, set_nth, with_machine, next, poked}
 use Rattle.hut.specs.Played.{as_machine, told_next}

@@ -1,5 +1,5 @@
 -- What happens, as the definitions have it, at the machine that stands for a hut.
-use Rattle.std.proofs.Common.{◌≡◌, ℕ, zero, suc, ◌+◌, ◌≤◌, Bool, true, false, List, [], ◌∷◌, length, Some, None, vec_items, sym, refl, ap, ◌∙◌, subst, add-one, arith}
+use Rattle.std.proofs.Common.{◌≡◌, ℕ, zero, suc, ◌+◌, ◌≤◌, Bool, true, false, List, [], ◌∷◌, length, Some, vec_items, sym, refl, ap, ◌∙◌, subst, add-one, arith}
 use Rattle.std.proofs.lemmas.Bool.{both_ways}
 use Rattle.sums.specs.Sums.{each, none_of, Gauges}
 use Rattle.sums.proofs.Eaches.{length_each}

@@ -1,4 +1,4 @@
-use Rattle.std.proofs.Common.{◌≡◌, arith}
+use Rattle.std.proofs.Common.{arith}
 use Rattle.std.proofs.lemmas.Bool.{both_ways}
 use Rattle.machine.proofs.Stepped.{stepped, refused}
 use Rattle.machine.proofs.step.Goals as goal

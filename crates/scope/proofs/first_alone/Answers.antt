@@ -1,4 +1,4 @@
-use Rattle.std.proofs.Common.{◌≡◌, ◌+◌, cond, length, drop, Err, sym, ap, ◌∙◌, arith}
+use Rattle.std.proofs.Common.{◌+◌, cond, drop, Err, sym, ap, ◌∙◌}
 use Rattle.sums.specs.Readings.{as_gauges}
 use Rattle.scope.specs.Others.{quiet_from}
 use Rattle.scope.proofs.Quiet.{okay, core_alone, quiet_step, quiet_end, quiet_first}

@@ -1,4 +1,4 @@
-use Rattle.std.proofs.Common.{◌≡◌, ◌≤◌, drop}
+use Rattle.std.proofs.Common.{◌≡◌, drop}
 use Rattle.sums.specs.Readings.{as_gauges}
 use Rattle.scope.specs.Others.{quiet_from, alone}
 use Rattle.scope.proofs.first_alone.Given as goal

@@ -1,4 +1,4 @@
-use Rattle.std.proofs.Common.{◌≡◌, set, ap, ◌∙◌, arith, rules}
+use Rattle.std.proofs.Common.{set, ap, ◌∙◌, arith, rules}
 use Rattle.gauge.proofs.Cells.{tables_filled}
 use Rattle.gauge.proofs.checkpoint.end_hour.Goals as goal
 

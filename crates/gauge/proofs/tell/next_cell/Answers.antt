@@ -1,4 +1,4 @@
-use Rattle.std.proofs.Common.{◌≡◌, ap, ◌∙◌}
+use Rattle.std.proofs.Common.{ap, ◌∙◌}
 use Rattle.gauge.specs.Scan.{counted_from}
 use Rattle.gauge.proofs.tell.next_cell.Goals as goal
 

@@ -1,4 +1,4 @@
-use Rattle.std.proofs.Common.{◌≡◌, sym, ◌∙◌, arith}
+use Rattle.std.proofs.Common.{sym, ◌∙◌, arith}
 use Rattle.gauge.proofs.Scans.{skips, stops, past_last}
 use Rattle.gauge.proofs.tell.next_counted.Goals as goal
 use Rattle.gauge.proofs.tell.next_counted.Goals.{then-loop-cell-test+else-memory-cell-eq0, else-loop-cell-test}

@@ -1,4 +1,4 @@
-use Rattle.std.proofs.Common.{◌+◌, [], ◌∷◌, ◌++◌, sym, ap, ◌∙◌, ap₂, add-one}
+use Rattle.std.proofs.Common.{[], ◌∷◌, ◌++◌, sym, ap, ◌∙◌, ap₂, add-one}
 use Rattle.sums.specs.Sums.{each}
 use Rattle.machine.specs.Run.{so_many_of}
 use Rattle.hut.specs.Played.{as_text}

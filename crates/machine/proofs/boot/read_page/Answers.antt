@@ -7,7 +7,7 @@ use Rattle.sums.specs.Written.{written}
 use Rattle.sums.proofs.Columns.{decoded_length, length_sums, length_counts}
 use Rattle.sums.proofs.Overwrites.{put_mid_written}
 use Rattle.gauge.specs.Memory.{sums_at, counts_at}
-use Rattle.machine.specs.Boot.{page_read, page_fits}
+use Rattle.machine.specs.Boot.{page_fits}
 use Rattle.machine.proofs.boot.read_page.Goals as goal
 
 -- a row of a page, written over a part

@@ -1,4 +1,4 @@
-use Rattle.std.proofs.Common.{◌≡◌, ◌<◌, get_or, refl, arith}
+use Rattle.std.proofs.Common.{◌<◌, refl, arith}
 use Rattle.std.proofs.lemmas.Bool.{ne_eqb}
 use Rattle.gauge.specs.Memory.{phase_in, asks_root, asks_page, asks_cursor, done}
 use Rattle.machine.proofs.boot.recall.Goals as goal

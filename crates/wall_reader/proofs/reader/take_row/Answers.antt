@@ -1,4 +1,4 @@
-use Rattle.std.proofs.Common.{Some, sym, refl, ap, ◌∙◌}
+use Rattle.std.proofs.Common.{Some, sym, ap, ◌∙◌}
 use Rattle.rows.specs.Walls.{as_told}
 use Rattle.wall_reader.proofs.Held.{held_again, held_more}
 use Rattle.wall_reader.proofs.reader.take_row.Goals as goal

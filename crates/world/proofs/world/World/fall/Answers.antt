@@ -1,5 +1,4 @@
 use Rattle.std.proofs.Common.{◌<◌, ◌≤◌, [], ◌∷◌, length, vec_items, vec_len, sym, ap, ◌∙◌, ap₂, arith}
-use Rattle.sums.specs.Sums.{each}
 use Rattle.sums.proofs.Eaches.{length_each}
 use Rattle.machine.specs.Entry.{own}
 use Rattle.machine.specs.Run.{set_nth, machine, machine_at, wakes}

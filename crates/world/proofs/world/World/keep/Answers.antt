@@ -1,4 +1,4 @@
-use Rattle.std.proofs.Common.{◌≡◌, vec_items, sym, ap, ◌∙◌, subst}
+use Rattle.std.proofs.Common.{vec_items, sym, ap, ◌∙◌}
 use Rattle.machine.specs.Run.{acted, keep}
 use Rattle.hut.specs.Played.{as_machine, as_text}
 use Rattle.world.specs.Worlds.{as_world}

@@ -1,7 +1,6 @@
 use Rattle.std.proofs.Common.{sym, refl, ap, ◌∙◌}
 use Rattle.sums.specs.Readings.{as_gauges}
 use Rattle.machine.specs.Entry.{own}
-use Rattle.machine.specs.Run as run
 use Rattle.machine.specs.Run.{goes, poked, by_each, up_to}
 use Rattle.world.specs.Worlds.{as_world}
 use Rattle.world.proofs.Turning.{by_each_more}

@@ -1,4 +1,4 @@
-use Rattle.std.proofs.Common.{◌≡◌, vec_items, sym, ap, ◌∙◌}
+use Rattle.std.proofs.Common.{vec_items, sym, ◌∙◌}
 use Rattle.hut.specs.Played.{as_machine}
 use Rattle.world.specs.Worlds.{as_world}
 use Rattle.world.proofs.Huts.{hut_at}

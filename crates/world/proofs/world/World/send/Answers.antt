@@ -1,4 +1,4 @@
-use Rattle.std.proofs.Common.{◌≡◌, vec_items, sym, refl, ap, ◌∙◌, ap₂}
+use Rattle.std.proofs.Common.{vec_items, sym, refl, ap, ◌∙◌, ap₂}
 use Rattle.machine.specs.Run.{set_nth, acted, sends}
 use Rattle.hut.specs.Played.{as_machine, as_text}
 use Rattle.world.specs.Posts.{as_letter}

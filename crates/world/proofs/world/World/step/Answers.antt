@@ -1,7 +1,6 @@
-use Rattle.std.proofs.Common.{◌≡◌, ◌<◌, ◌≤◌, [], length, vec_items, vec_len, sym, refl, ap, ◌∙◌, subst, arith}
+use Rattle.std.proofs.Common.{◌<◌, ◌≤◌, length, vec_items, vec_len, sym, refl, ap, ◌∙◌, arith}
 use Rattle.machine.specs.Entry.{own}
 use Rattle.machine.specs.Run.{one_step}
-use Rattle.hut.specs.Played.{as_machine}
 use Rattle.world.specs.Worlds.{as_world}
 use Rattle.world.proofs.Huts.{hut_at, machine_past}
 use Rattle.hut.proofs.Turning.{step_none}

@@ -1,4 +1,4 @@
-use Rattle.std.proofs.Common.{◌≡◌, get_or, vec_items, sym, ap, ◌∙◌, ap₂}
+use Rattle.std.proofs.Common.{get_or, vec_items, sym, ap, ◌∙◌, ap₂}
 use Rattle.machine.specs.Run.{set_nth}
 use Rattle.sums.specs.Sums.{each}
 use Rattle.rows.specs.Walls.{as_told}
