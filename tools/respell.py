@@ -14,11 +14,11 @@ import sys
 # A declaration: at the head of a line, a name and a colon.
 DECLARED = re.compile(r"\s*(?:(?:abbrev|opaque|unfoldable|pub|instance|axiom)\s+)*(?:(?:record|data)\s+)?([^\s:(){},.=|?]+)(?:\s+[^=]*?)?\s*:(?:\s|$)")
 # Names that the check makes.
-MADE = re.compile(r"^(invariant|decreases|loop|returns|overflow|slice-bounds|bounds|offset-bounds|nonzero|ghost)(-|$)|-requires(-|$)|^the-|^in-0$")
-# Names of this repository that a new name would meet; the others are respelled by rule.
-BY_HAND = {}
-# Aliases and variables of modules, which no line of theirs declares.
-ALSO = ["page-set", "rows-s", "rows-c", "long-s", "long-c", "ps-small"]
+MADE = re.compile(r"^(invariant|decreases|loop|returns|overflow|slice[-_]bounds|bounds|offset[-_]bounds|nonzero|ghost)([-_]|$)|-requires(-|$)|^the-|^in-0$")
+# Names that no rule gives.
+BY_HAND = {"Goes_on": "GoesOn"}
+# Aliases, variables of modules, and a name that the kit's script had turned half.
+ALSO = ["page-set", "rows-s", "rows-c", "long-s", "long-c", "ps-small", "valued-option", "decimal-of", "Goes_on"]
 IDENT = r"\w'\-◌₀-₉·"
 
 

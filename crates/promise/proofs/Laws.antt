@@ -54,23 +54,23 @@ unfolding Outlives
 outlives e gs w i j h = (field_kept (λ m. m.slots) w.machines i j _ refl, field_kept (λ m. m.gone) w.machines i j _ refl, refl)
 
 module _ (e : Engine) (gs : Gauges) (told₀ : List ToldSum) where
-  abbrev Goes_on : World → Type 0
-  Goes_on w = (extra : List ToldSum) × (w.told ≡ told₀ ++ extra)
+  abbrev GoesOn : World → Type 0
+  GoesOn w = (extra : List ToldSum) × (w.told ≡ told₀ ++ extra)
 
-  step_adds : (w : World) (i : ℕ) (evs : List Event) → Goes_on w → Goes_on (one_step e gs w i evs)
+  step_adds : (w : World) (i : ℕ) (evs : List Event) → GoesOn w → GoesOn (one_step e gs w i evs)
   unfolding one_step
   step_adds w i [] g = g
   step_adds w i (ev ∷ evs) g =
-      on_any gs w i _ Goes_on _ (λ _. g) (λ _ _. g) (λ _ t. (_, ap (λ ts. ts ++ t ∷ []) g.1 ∙ append_assoc told₀ g.0 _)) g
+      on_any gs w i _ GoesOn _ (λ _. g) (λ _ _. g) (λ _ t. (_, ap (λ ts. ts ++ t ∷ []) g.1 ∙ append_assoc told₀ g.0 _)) g
 
-  keeps_told : Keeps e gs Goes_on
+  keeps_told : Keeps e gs GoesOn
   keeps_told = record {
     steps = λ w i h g. step_adds w i _ g;
-    pokes = λ w i g. on_poked w Goes_on i (λ _. g) (λ _. g);
-    delivers = λ w i j g. on_delivered w Goes_on i j (λ _ _ _ _. g) (λ _. g) (λ _. g);
+    pokes = λ w i g. on_poked w GoesOn i (λ _. g) (λ _. g);
+    delivers = λ w i j g. on_delivered w GoesOn i j (λ _ _ _ _. g) (λ _. g) (λ _. g);
     falls_down = λ w i g. g;
   }
 
 pub never_back : NeverBack
 unfolding NeverBack
-never_back e gs w it = happened_good e gs (Goes_on e gs w.told) (keeps_told e gs w.told) w it ([], sym (append-nil w.told))
+never_back e gs w it = happened_good e gs (GoesOn e gs w.told) (keeps_told e gs w.told) w it ([], sym (append-nil w.told))

@@ -13,14 +13,14 @@ use Rattle.wall_reader.specs.declared.words.Kind.{Kind}
 use Rattle.wall_reader.specs.declared.words.Kind.TheVariants as kind
 use Rattle.wall_reader.specs.declared.words.Misuse.{Misuse}
 use Rattle.wall_reader.specs.declared.words.Valued.{Valued}
-use Rattle.wall_reader.specs.declared.words.Valued.TheVariants as valued-option
+use Rattle.wall_reader.specs.declared.words.Valued.TheVariants as valued_option
 
 -- an option, or a file where the word begins with no dash
 abbrev pub kind_of : Bytes → Kind
 kind_of w =
-    cond (bytes_eq w (codes "--hour")) (kind.Valued valued-option.Hour)
-    (cond (bytes_eq w (codes "--hours")) (kind.Valued valued-option.Hours)
-    (cond (bytes_eq w (codes "--place")) (kind.Valued valued-option.Place)
+    cond (bytes_eq w (codes "--hour")) (kind.Valued valued_option.Hour)
+    (cond (bytes_eq w (codes "--hours")) (kind.Valued valued_option.Hours)
+    (cond (bytes_eq w (codes "--place")) (kind.Valued valued_option.Place)
     (cond (bytes_eq w (codes "--csv")) kind.Csv
     (cond (bytes_eq w (codes "--chart")) kind.Chart
     (cond (bytes_eq w (codes "--help")) kind.Help
@@ -56,9 +56,9 @@ with_hours f (Err e) = Err e
 
 -- the filter with the value of an option
 abbrev pub valued : Valued → Filter → Bytes → Result Filter Complaint
-valued valued-option.Hour f w = with_hour f (number_of (decimal w))
-valued valued-option.Hours f w = with_hours f (hours_of w)
-valued valued-option.Place f w = with_place f (number_of (decimal w))
+valued valued_option.Hour f w = with_hour f (number_of (decimal w))
+valued valued_option.Hours f w = with_hours f (hours_of w)
+valued valued_option.Place f w = with_place f (number_of (decimal w))
 
 abbrev pub file_taken : Draft → ℕ → Option ℕ → Result Draft Complaint
 file_taken d at None = Ok (record { request = record { file = Some at; filter = d.request.filter; form = d.request.form; help = d.request.help }; waits = d.waits })

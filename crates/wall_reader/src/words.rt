@@ -1,7 +1,7 @@
 // What the words behind the program's name ask for.
 ghost use Rattle.std.specs.Prelude.{◌≡◌, string_bytes, ◌==◌, slice_index};
 ghost use Rattle.sums.specs.Sums.{each};
-ghost use Rattle.text.specs.Text.{decimal as decimal-of};
+ghost use Rattle.text.specs.Text.{decimal as decimal_of};
 ghost use Rattle.wall_reader.specs.Requests.{kind_of, hours_of, number_of, valued, plain_taken, word_taken, asked_by};
 
 use crate::asked::{Filter, Hours};
@@ -123,7 +123,7 @@ fn hours_of(word: &[u8]) -> Result<Hours, Complaint>
 }
 
 fn number_of(word: &[u8]) -> Result<u64, Complaint>
-    ensures { result ≡ number_of (decimal-of word.now) }
+    ensures { result ≡ number_of (decimal_of word.now) }
 {
     match decimal(word) {
         Some(number) => Ok(number),
