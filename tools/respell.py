@@ -3,8 +3,8 @@
 
 usage: python3 tools/respell.py         at the top: rewrites crates/ in place
        python3 tools/respell.py list    prints old and new names, and where a new name was already in use
-Run once, after port.py. Names of functions in src/, strings, inputs and outputs stay, and so do the names that the check gives
-to goals, invariants and measures.
+Run once, after port.py. Names of functions in src/, inputs and outputs stay, and so do comments, strings that end in their line, and the
+names that the check gives to goals, invariants and measures.
 """
 import collections
 import os

@@ -12,7 +12,7 @@ use player_args::Command;
 use river::River;
 use std::io::Read;
 use std::process::ExitCode;
-use std::time::Instant;
+use std::time::{Duration, Instant};
 use std::{env, fs};
 use world::World;
 
@@ -80,24 +80,52 @@ fn print_sums(rt: &HostRuntime, file: &String) -> anyhow::Result<()> {
     Ok(())
 }
 
-// Prints the rows that are told, those that were to be told and were not, counts and a verdict.
-fn play_file(rt: &HostRuntime, file: &String, stats: bool) -> anyhow::Result<()> {
+// Plays all that happens, and prints the rows as they are told.
+fn play_and_print(rt: &HostRuntime, river: &River) -> anyhow::Result<World> {
     let heap = rt.alloc();
+    let mut world = World::new(heap)?;
+    let mut shown = 0;
+    for item in river.items.iter() {
+        world.happen(heap, river.gauges.as_slice(), *item)?;
+        for row in world.told.iter().skip(shown) {
+            println!(rt; "{row}")?;
+        }
+        shown = world.told.len();
+    }
+    Ok(world)
+}
+
+// With figures, the river is played whole before its rows are printed, so that the steps alone are timed.
+fn play_file(rt: &HostRuntime, file: &String, stats: bool) -> anyhow::Result<()> {
     let river = read_river(rt, file)?;
+    if !stats {
+        let world = play_and_print(rt, &river)?;
+        return report(rt, &river, &world, None);
+    }
     let start = Instant::now(rt)?;
-    let world = play::play(heap, river.gauges.as_slice(), river.items.as_slice())?;
+    let world = play::play(rt.alloc(), river.gauges.as_slice(), river.items.as_slice())?;
     let stepping = start.elapsed(rt)?;
-    let judgement = play::judge(heap, river.gauges.as_slice(), &world)?;
     for row in world.told.iter() {
         println!(rt; "{row}")?;
     }
+    report(rt, &river, &world, Some(stepping))
+}
+
+// Prints the rows that were to be told and were not, figures where the steps were timed, counts and a verdict.
+fn report(
+    rt: &HostRuntime,
+    river: &River,
+    world: &World,
+    stepping: Option<Duration>,
+) -> anyhow::Result<()> {
+    let judgement = play::judge(rt.alloc(), river.gauges.as_slice(), world)?;
     for row in judgement.comparison.untold.iter() {
         println!(rt; "untold: {row}")?;
     }
-    if stats {
-        stats::print(rt, &river, &world, stepping)?;
+    if let Some(stepping) = stepping {
+        stats::print(rt, river, world, stepping)?;
     }
-    summary(rt, &river, &world, &judgement)
+    summary(rt, river, world, &judgement)
 }
 
 // Prints the counts and the verdict; a wall that is wrong is an error.
