@@ -41,7 +41,7 @@ mod tests {
         if comparison.wrong != 0 {
             return Err(Fail::new("a row of the wall is wrong"));
         }
-        if comparison.untold.len() != 0 {
+        if !comparison.untold.is_empty() {
             return Err(Fail::new("a row is missing on the wall"));
         }
         let mut lines: usize = 0;
