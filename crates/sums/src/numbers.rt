@@ -35,7 +35,7 @@ fn number_and_rest(bytes: &[u8], width: usize) -> (u64, &[u8])
 {
     let (front, rest) = bytes.split_at(width);
     let mut low = [0; WIDEST];
-    low[0..width].copy_from_slice(front);
+    low[..width].copy_from_slice(front);
     (u64::from_le_bytes(low), rest)
 }
 
@@ -49,9 +49,7 @@ pub(crate) fn take_row<'a>(bytes: &'a [u8], width: usize, numbers: &mut [u64]) -
 {
     let mut rest = bytes;
     for number in numbers.iter_mut() {
-        let (first, behind) = number_and_rest(rest, width);
-        *number = first;
-        rest = behind;
+        (*number, rest) = number_and_rest(rest, width);
     }
     rest
 }
@@ -64,9 +62,7 @@ pub fn write_row(numbers: &[u64], width: usize, out: &mut [u8]) -> Result<(), Ro
     if width > WIDEST {
         return Err(RowError::TooWide);
     }
-    let Some(len) = width.checked_mul(numbers.len()) else {
-        return Err(RowError::TooShort);
-    };
+    let len = width.checked_mul(numbers.len()).ok_or(RowError::TooShort)?;
     if len > out.len() {
         return Err(RowError::TooShort);
     }
@@ -79,10 +75,10 @@ pub(crate) fn put_row(numbers: &[u64], width: usize, out: &mut [u8])
     requires long { width * length numbers.now ≤ length out.old }
     ensures { out.new ≡ row_over width numbers.now out.old }
 {
-    let mut at = 0;
-    for number in numbers {
+    // By the place: what is written through parts that a loop moves along is not known behind it.
+    for (i, number) in numbers.iter().enumerate() {
+        let at = width * i;
         put_number(*number, &mut out[at..at + width]);
-        at += width;
     }
 }
 
@@ -91,5 +87,5 @@ fn put_number(number: u64, out: &mut [u8])
     ensures { out.new ≡ digits (length out.old) number }
 {
     let bytes = number.to_le_bytes();
-    out.copy_from_slice(&bytes[0..out.len()]);
+    out.copy_from_slice(&bytes[..out.len()]);
 }
