@@ -2,7 +2,7 @@
 ghost use Rattle.std.specs.Prelude.{◌≡◌, ◌*◌, ◌≤◌, true, length, take, drop};
 ghost use Rattle.std.specs.Option.{option_map};
 ghost use Rattle.sums.specs.Digits.{widest, digits, value, fits, row_numbers};
-ghost use Rattle.sums.specs.Numbers.{NumberSays, row_answer, row_over, row_written};
+ghost use Rattle.sums.specs.Numbers.{NumberSays, row_room, row_answer, row_read, row_over, row_written};
 ghost use Rattle.sums.specs.Sums.{every};
 
 // No number has more bytes.
@@ -54,19 +54,37 @@ pub(crate) fn take_row<'a>(bytes: &'a [u8], width: usize, numbers: &mut [u64]) -
     rest
 }
 
+// Reads a row of numbers from the front of the bytes.
+pub fn read_row(bytes: &[u8], width: usize, numbers: &mut [u64]) -> Result<(), RowError>
+    ensures told { result ≡ row_answer width numbers.old bytes.now }
+    ensures numbers { numbers.new ≡ row_read width bytes.now numbers.old }
+{
+    row_has_room(width, numbers.len(), bytes.len())?;
+    take_row(bytes, width, numbers);
+    Ok(())
+}
+
 // Writes a row of numbers over the front of the bytes, each in `width` bytes. Of a number that does not fit, the low ones are written.
 pub fn write_row(numbers: &[u64], width: usize, out: &mut [u8]) -> Result<(), RowError>
     ensures told { result ≡ row_answer width numbers.now out.old }
     ensures out { out.new ≡ row_written width numbers.now out.old }
 {
+    row_has_room(width, numbers.len(), out.len())?;
+    put_row(numbers, width, out);
+    Ok(())
+}
+
+// Whether so many numbers of this width have room in so many bytes.
+fn row_has_room(width: usize, count: usize, bytes: usize) -> Result<(), RowError>
+    ensures { result ≡ row_room width count bytes }
+{
     if width > WIDEST {
         return Err(RowError::TooWide);
     }
-    let len = width.checked_mul(numbers.len()).ok_or(RowError::TooShort)?;
-    if len > out.len() {
+    let len = width.checked_mul(count).ok_or(RowError::TooShort)?;
+    if len > bytes {
         return Err(RowError::TooShort);
     }
-    put_row(numbers, width, out);
     Ok(())
 }
 
