@@ -16,14 +16,6 @@ pub enum RecordError {
     TooShort,
 }
 
-// Writes the numbers of a record over the front of the bytes.
-fn write_record(numbers: &[u64], out: &mut [u8]) -> Result<(), RecordError>
-    ensures told { result ≡ record_answer (number_width * length numbers.now) out.old }
-    ensures out { out.new ≡ record_written (number_width * length numbers.now) (row_bytes number_width numbers.now) out.old }
-{
-    write_row(numbers, WIDTH, out).map_err(|_| RecordError::TooShort)
-}
-
 // The pages that a root record names: none, or those of one of two sets. No `Option` of two sets, since only a type of this crate gives `u64` a `From`.
 #[derive(Clone, Copy, PartialEq, Eq, Debug)]
 pub enum PageSet {
@@ -113,7 +105,7 @@ pub trait Record<const N: usize>: Copy {
         ensures told { result ≡ record_answer BYTES out.old }
         ensures out { out.new ≡ record_written BYTES (bytes_of self) out.old }
     {
-        write_record(&self.numbers(), out)
+        write_row(&self.numbers(), WIDTH, out).map_err(|_| RecordError::TooShort)
     }
 
     // Reads a drawer: any bytes that are no record stand for the zero record.

@@ -81,7 +81,7 @@ mod tests {
         assert_eq!(rt; PageSet::None.shadow(), PageSet::First);
         assert_eq!(rt; PageSet::First.shadow(), PageSet::Second);
         assert_eq!(rt; PageSet::Second.shadow(), PageSet::First);
-        assert_eq!(rt; PageSet::try_from(2u64), Ok(PageSet::Second));
-        assert_eq!(rt; PageSet::try_from(3u64), Err(UnknownSet(3)));
+        assert_eq!(rt; PageSet::try_from(2), Ok(PageSet::Second));
+        assert_eq!(rt; PageSet::try_from(3), Err(UnknownSet(3)));
     }
 }
