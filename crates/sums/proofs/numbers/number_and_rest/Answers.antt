@@ -8,7 +8,7 @@ use Rattle.sums.proofs.numbers.number_and_rest.Goals as goal
 
 pub returns : goal.returns
 returns c =
-    let w = c.args.width in
+    let w = c.args.width.bytes in
     let front : List ℕ = take w c.args.bytes.now in
     let zeros : List ℕ = replicate (8 - w) 0 in
     let low : List ℕ = c.copy_from_slice.new.self ++ drop w (replicate 8 0) in

@@ -6,7 +6,7 @@ use Rattle.sums.proofs.numbers.take_row.Given as goal
 -- what is read, and what is still to be read
 abbrev pub invariant-loop-number : goal.invariant-loop-number
 invariant-loop-number l = record {
-  numbers : take l.number-index l.numbers ≡ row_numbers l.width l.number-index l.bytes;
-  small : every (fits l.width) (take l.number-index l.numbers) ≡ true;
-  rest : l.rest ≡ drop (l.width * l.number-index) l.bytes;
+  numbers : take l.number-index l.numbers ≡ row_numbers l.width.bytes l.number-index l.bytes;
+  small : every (fits l.width.bytes) (take l.number-index l.numbers) ≡ true;
+  rest : l.rest ≡ drop (l.width.bytes * l.number-index) l.bytes;
 }
