@@ -1,6 +1,7 @@
 -- The root record and the cursor, by value and as bytes. Assumes nothing: these are definitions.
-use Rattle.std.specs.Prelude.{◌≡◌, ℕ, ◌*◌, ◌^◌, ◌<◌, true, cond, List, [], ◌∷◌, ◌++◌, length, take, drop, Some, None, Ok, Err, Option, Result, ◌==◌, ◌≢◌, nat_le, nat_lt}
-use Rattle.sums.specs.Digits.{value, row_bytes}
+use Rattle.std.specs.Prelude.{◌≡◌, ℕ, ◌*◌, ◌^◌, ◌<◌, true, cond, List, [], ◌∷◌, ◌++◌, length, drop, Some, None, Ok, Err, Option, Result, ◌==◌, ◌≢◌, nat_le, nat_lt, refl}
+use Rattle.std.specs.Option.{option_map, unwrap_or}
+use Rattle.sums.specs.Digits.{row_bytes, row_numbers}
 use Rattle.sums.specs.Sums.{every}
 use Rattle.store.specs.declared.records.Cursor.{Cursor}
 use Rattle.store.specs.declared.records.PageSet.{PageSet}
@@ -9,6 +10,7 @@ use Rattle.store.specs.declared.records.PageSet.TheVariants as page_set
 use Rattle.store.specs.declared.records.RecordError.{RecordError}
 use Rattle.store.specs.declared.records.RecordError.TheVariants.{TooShort}
 use Rattle.store.specs.declared.records.Root.{Root}
+use Rattle.store.specs.declared.records.UnknownSet.{UnknownSet}
 
 abbrev pub set_number : PageSet → ℕ
 set_number page_set.None = 0
@@ -17,6 +19,9 @@ set_number Second = 2
 
 abbrev pub numbered_set : (number : ℕ) → Option PageSet
 numbered_set n = cond (n == 0) (Some page_set.None) (cond (n == 1) (Some First) (cond (n == 2) (Some Second) None))
+
+abbrev pub unknown_set : (number : ℕ) → UnknownSet
+unknown_set n = record { 0 = n }
 
 -- the set that the next checkpoint writes
 abbrev pub shadow_of : PageSet → PageSet
@@ -32,16 +37,20 @@ number_width = 8
 abbrev pub number_limit : ℕ
 number_limit = 256 ^ number_width
 
--- the number of a record that stands behind i others
-abbrev pub number_at : (i : ℕ) → List ℕ → ℕ
-number_at i bs = value (take number_width (drop (number_width * i) bs))
-
 -- a record of so many bytes is written over the front of others, if there are enough
 abbrev pub record_answer : (size : ℕ) (out : List ℕ) → Result (Unit {0}) RecordError
 record_answer n out = cond (nat_le n (length out)) (Ok tt) (Err TooShort)
 
 abbrev pub record_written : (size : ℕ) (bytes out : List ℕ) → List ℕ
 record_written n bs out = cond (nat_le n (length out)) (bs ++ drop n out) out
+
+-- the record that bytes are, if any: by its numbers, where the bytes are just so many
+abbrev pub record_in : {R : Type 0} → (count : ℕ) → (of_numbers : List ℕ → Option R) → List ℕ → Option R
+record_in n of bs = cond (length bs == number_width * n) (of (row_numbers number_width n bs)) None
+
+-- the record that a drawer stands for
+abbrev pub record_of : {R : Type 0} → (zero : R) (count : ℕ) → (of_numbers : List ℕ → Option R) → List ℕ → R
+record_of z n of bs = unwrap_or (record_in n of bs) z
 
 -- ROOT: three numbers
 abbrev pub root_length : ℕ
@@ -53,24 +62,27 @@ root s h p = record { set = s; hour = h; pos = p }
 abbrev pub zero_root : Root
 zero_root = root page_set.None 0 0
 
+abbrev pub root_numbers : Root → List ℕ
+root_numbers r = set_number r.set ∷ r.hour ∷ r.pos ∷ []
+
 unfoldable pub root_bytes : Root → List ℕ
-root_bytes r = row_bytes number_width (set_number r.set ∷ r.hour ∷ r.pos ∷ [])
+root_bytes r = row_bytes number_width (root_numbers r)
 
-abbrev pub root_with : Option PageSet → (hour pos : ℕ) → Option Root
-root_with None h p = None
-root_with (Some s) h p = Some (root s h p)
+-- the root record of three numbers, where the first is that of a set
+abbrev pub numbered_root : (numbers : List ℕ) → Option Root
+numbered_root (s ∷ h ∷ p ∷ []) = option_map (λ set. root set h p) (numbered_set s)
+numbered_root _ = None
 
--- the root record that bytes are, if any
-abbrev pub root_in : List ℕ → Option Root
-root_in bs = cond (length bs == root_length) (root_with (numbered_set (number_at 0 bs)) (number_at 1 bs) (number_at 2 bs)) None
-
-abbrev pub root_or_zero : Option Root → Root
-root_or_zero None = zero_root
-root_or_zero (Some r) = r
-
--- the root record that a drawer stands for
 unfoldable pub root_of : List ℕ → Root
-root_of bs = root_or_zero (root_in bs)
+root_of bs = record_of zero_root 3 numbered_root bs
+
+pub root_bytes_are : (r : Root) → root_bytes r ≡ row_bytes number_width (root_numbers r)
+unfolding root_bytes
+root_bytes_are r = refl
+
+pub root_of_is : (bs : List ℕ) → root_of bs ≡ record_of zero_root 3 numbered_root bs
+unfolding root_of
+root_of_is bs = refl
 
 -- CURSOR: two numbers
 abbrev pub cursor_length : ℕ
@@ -82,20 +94,26 @@ cursor h k = record { hour = h; cell = k }
 abbrev pub zero_cursor : Cursor
 zero_cursor = cursor 0 0
 
+abbrev pub cursor_numbers : Cursor → List ℕ
+cursor_numbers c = c.hour ∷ c.cell ∷ []
+
 unfoldable pub cursor_bytes : Cursor → List ℕ
-cursor_bytes c = row_bytes number_width (c.hour ∷ c.cell ∷ [])
+cursor_bytes c = row_bytes number_width (cursor_numbers c)
 
--- the cursor that bytes are, if any
-abbrev pub cursor_in : List ℕ → Option Cursor
-cursor_in bs = cond (length bs == cursor_length) (Some (cursor (number_at 0 bs) (number_at 1 bs))) None
+abbrev pub numbered_cursor : (numbers : List ℕ) → Option Cursor
+numbered_cursor (h ∷ k ∷ []) = Some (cursor h k)
+numbered_cursor _ = None
 
-abbrev pub cursor_or_zero : Option Cursor → Cursor
-cursor_or_zero None = zero_cursor
-cursor_or_zero (Some c) = c
-
--- the cursor that a drawer stands for
 unfoldable pub cursor_of : List ℕ → Cursor
-cursor_of bs = cursor_or_zero (cursor_in bs)
+cursor_of bs = record_of zero_cursor 2 numbered_cursor bs
+
+pub cursor_bytes_are : (c : Cursor) → cursor_bytes c ≡ row_bytes number_width (cursor_numbers c)
+unfolding cursor_bytes
+cursor_bytes_are c = refl
+
+pub cursor_of_is : (bs : List ℕ) → cursor_of bs ≡ record_of zero_cursor 2 numbered_cursor bs
+unfolding cursor_of
+cursor_of_is bs = refl
 
 -- records whose numbers fit
 pub record RootFits (r : Root) : Type 0 where

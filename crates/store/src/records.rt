@@ -1,9 +1,11 @@
 // The root record and the cursor, by value and as bytes.
-ghost use Rattle.std.specs.Prelude.{◌≡◌, ◌*◌, length};
+ghost use Rattle.std.specs.Prelude.{◌≡◌, ℕ, ◌*◌, ◌^◌, ◌<◌, List, length, Option, refl};
+ghost use Rattle.std.specs.Option.{ok_or};
+ghost use Rattle.std.proofs.Common.{rules};
 ghost use Rattle.sums.specs.Digits.{row_bytes};
-ghost use Rattle.store.specs.Records.{set_number, numbered_set, shadow_of, number_width, record_answer, record_written, root_length, root_bytes, root_in, root_of, cursor_length, cursor_bytes, cursor_in, cursor_of, RootRoundTrip, CursorRoundTrip};
+ghost use Rattle.store.specs.Records.{set_number, numbered_set, unknown_set, shadow_of, number_width, record_answer, record_written, record_in, record_of, root_numbers, numbered_root, zero_root, root_length, root_bytes, root_bytes_are, root_of, root_of_is, cursor_numbers, numbered_cursor, zero_cursor, cursor_length, cursor_bytes, cursor_bytes_are, cursor_of, cursor_of_is, RootRoundTrip, CursorRoundTrip};
 
-use sums::numbers::{read_number, write_row};
+use sums::numbers::{read_row, write_row};
 
 // The bytes of each number of a record.
 const WIDTH: usize = 8;
@@ -14,18 +16,7 @@ pub enum RecordError {
     TooShort,
 }
 
-// Writes the numbers of a record over the front of the bytes.
-fn write_record(numbers: &[u64], out: &mut [u8]) -> Result<(), RecordError>
-    ensures told { result ≡ record_answer (number_width * length numbers.now) out.old }
-    ensures out { out.new ≡ record_written (number_width * length numbers.now) (row_bytes number_width numbers.now) out.old }
-{
-    let Ok(()) = write_row(numbers, WIDTH, out) else {
-        return Err(RecordError::TooShort);
-    };
-    Ok(())
-}
-
-// The pages that a root record names: none, or those of one of two sets.
+// The pages that a root record names: none, or those of one of two sets. No `Option` of two sets, since only a type of this crate gives `u64` a `From`.
 #[derive(Clone, Copy, PartialEq, Eq, Debug)]
 pub enum PageSet {
     None,
@@ -33,29 +24,38 @@ pub enum PageSet {
     Second,
 }
 
-impl PageSet {
-    pub fn number(self) -> u64
-        ensures { result ≡ set_number self }
-    {
-        match self {
+// A number that is that of no set.
+#[derive(Clone, Copy, PartialEq, Eq, Debug)]
+pub struct UnknownSet(pub u64);
+
+impl From<PageSet> for u64 {
+    ghost from_gives = { λ set number. number ≡ set_number set };
+
+    fn from(set: PageSet) -> u64 {
+        match set {
             PageSet::None => 0,
             PageSet::First => 1,
             PageSet::Second => 2,
         }
     }
+}
 
-    // The set of a number, if it is that of one.
-    pub fn from_number(number: u64) -> Option<PageSet>
-        ensures { result ≡ numbered_set number }
-    {
+impl TryFrom<u64> for PageSet {
+    type Error = UnknownSet;
+
+    ghost try_from_gives = { λ number tried. tried ≡ ok_or (numbered_set number) (unknown_set number) };
+
+    fn try_from(number: u64) -> Result<PageSet, UnknownSet> {
         match number {
-            0 => Some(PageSet::None),
-            1 => Some(PageSet::First),
-            2 => Some(PageSet::Second),
-            _ => None,
+            0 => Ok(PageSet::None),
+            1 => Ok(PageSet::First),
+            2 => Ok(PageSet::Second),
+            _ => Err(UnknownSet(number)),
         }
     }
+}
 
+impl PageSet {
     // The set that the next checkpoint writes, so that the pages of this one stay whole.
     pub fn shadow(self) -> PageSet
         ensures { result ≡ shadow_of self }
@@ -67,6 +67,66 @@ impl PageSet {
     }
 }
 
+// A record of `N` numbers, each kept in eight bytes of a drawer.
+pub trait Record<const N: usize>: Copy {
+    // The numbers of a record, and the record that numbers are, if any.
+    ghost numbers_of: { Self → List ℕ };
+
+    ghost numbered: { List ℕ → Option Self };
+
+    // The bytes of a record, and the record that bytes stand for.
+    ghost bytes_of: { Self → List ℕ };
+
+    ghost of_bytes: { List ℕ → Self };
+
+    ghost ZERO: { Self };
+
+    ghost BYTES: { ℕ };
+
+    // What an empty drawer stands for.
+    const ZERO: Self;
+    // How many bytes it has.
+    const BYTES: usize;
+
+    fn numbers(self) -> [u64; N]
+        ensures { result ≡ numbers_of self };
+
+    fn from_numbers(numbers: &[u64; N]) -> Option<Self>
+        ensures { result ≡ numbered numbers.now };
+
+    ghost BYTES_are: { (BYTES ≡ number_width * N) × (BYTES < 2 ^ 63) };
+
+    ghost bytes_are: { (r : Self) → bytes_of r ≡ row_bytes number_width (numbers_of r) };
+
+    ghost of_bytes_is: { (bs : List ℕ) → of_bytes bs ≡ record_of ZERO N numbered bs };
+
+    // Writes the record over the front of the bytes.
+    final fn encode(self, out: &mut [u8]) -> Result<(), RecordError>
+        ensures told { result ≡ record_answer BYTES out.old }
+        ensures out { out.new ≡ record_written BYTES (bytes_of self) out.old }
+    {
+        write_row(&self.numbers(), WIDTH, out).map_err(|_| RecordError::TooShort)
+    }
+
+    // Reads a drawer: any bytes that are no record stand for the zero record.
+    final fn decode(bytes: &[u8]) -> Self
+        ensures { result ≡ of_bytes bytes.now }
+    {
+        Self::read(bytes).unwrap_or(Self::ZERO)
+    }
+
+    final fn read(bytes: &[u8]) -> Option<Self>
+        ensures { result ≡ record_in N numbered bytes.now }
+    {
+        if bytes.len() != Self::BYTES {
+            return None;
+        }
+        let mut numbers = [0; N];
+        read_row(bytes, WIDTH, &mut numbers).ok()?;
+        Self::from_numbers(&numbers)
+    }
+}
+
 // The commit record of a checkpoint: whose pages hold the tables, of which hour, and where in the row of readings they end.
 #[derive(Clone, Copy, PartialEq, Eq, Debug)]
 pub struct Root {
@@ -75,43 +135,40 @@ pub struct Root {
     pub pos: u64,
 }
 
-impl Root {
-    pub const BYTES: usize = 3 * WIDTH;
-    // What an empty drawer stands for.
-    pub const ZERO: Root = Root {
+impl Record<3> for Root {
+    ghost numbers_of = { root_numbers };
+
+    ghost numbered = { numbered_root };
+
+    ghost bytes_of = { root_bytes };
+
+    ghost of_bytes = { root_of };
+
+    ghost ZERO = { zero_root };
+
+    ghost BYTES = { root_length };
+
+    ghost BYTES_are = { (refl, Prim.search rules) };
+
+    ghost bytes_are = { root_bytes_are };
+
+    ghost of_bytes_is = { root_of_is };
+
+    const ZERO: Root = Root {
         set: PageSet::None,
         hour: 0,
         pos: 0,
     };
 
-    // Writes the record over the front of the bytes.
-    pub fn encode(self, out: &mut [u8]) -> Result<(), RecordError>
-        ensures told { result ≡ record_answer root_length out.old }
-        ensures out { out.new ≡ record_written root_length (root_bytes self) out.old }
-    {
-        write_record(&[self.set.number(), self.hour, self.pos], out)
+    const BYTES: usize = 3 * WIDTH;
+
+    fn numbers(self) -> [u64; 3] {
+        [u64::from(self.set), self.hour, self.pos]
     }
 
-    // Reads a drawer: any bytes that are no root record stand for the zero record.
-    pub fn decode(bytes: &[u8]) -> Root
-        ensures { result ≡ root_of bytes.now }
-    {
-        let Some(root) = Root::read(bytes) else {
-            return Root::ZERO;
-        };
-        root
-    }
-
-    fn read(bytes: &[u8]) -> Option<Root>
-        ensures { result ≡ root_in bytes.now }
-    {
-        if bytes.len() != Root::BYTES {
-            return None;
-        }
-        let (number, rest) = read_number(bytes, WIDTH)?;
-        let (hour, rest) = read_number(rest, WIDTH)?;
-        let (pos, _) = read_number(rest, WIDTH)?;
-        let set = PageSet::from_number(number)?;
+    fn from_numbers(numbers: &[u64; 3]) -> Option<Root> {
+        let [set, hour, pos] = *numbers;
+        let set = PageSet::try_from(set).ok()?;
         Some(Root { set, hour, pos })
     }
 }
@@ -123,51 +180,45 @@ pub struct Cursor {
     pub cell: u64,
 }
 
-impl Cursor {
-    pub const BYTES: usize = 2 * WIDTH;
-    // What an empty drawer stands for.
-    pub const ZERO: Cursor = Cursor { hour: 0, cell: 0 };
+impl Record<2> for Cursor {
+    ghost numbers_of = { cursor_numbers };
 
-    // Writes the cursor over the front of the bytes.
-    pub fn encode(self, out: &mut [u8]) -> Result<(), RecordError>
-        ensures told { result ≡ record_answer cursor_length out.old }
-        ensures out { out.new ≡ record_written cursor_length (cursor_bytes self) out.old }
-    {
-        write_record(&[self.hour, self.cell], out)
+    ghost numbered = { numbered_cursor };
+
+    ghost bytes_of = { cursor_bytes };
+
+    ghost of_bytes = { cursor_of };
+
+    ghost ZERO = { zero_cursor };
+
+    ghost BYTES = { cursor_length };
+
+    ghost BYTES_are = { (refl, Prim.search rules) };
+
+    ghost bytes_are = { cursor_bytes_are };
+
+    ghost of_bytes_is = { cursor_of_is };
+
+    const ZERO: Cursor = Cursor { hour: 0, cell: 0 };
+
+    const BYTES: usize = 2 * WIDTH;
+
+    fn numbers(self) -> [u64; 2] {
+        [self.hour, self.cell]
     }
 
-    // Reads a drawer: any bytes that are no cursor stand for the zero cursor.
-    pub fn decode(bytes: &[u8]) -> Cursor
-        ensures { result ≡ cursor_of bytes.now }
-    {
-        let Some(cursor) = Cursor::read(bytes) else {
-            return Cursor::ZERO;
-        };
-        cursor
-    }
-
-    fn read(bytes: &[u8]) -> Option<Cursor>
-        ensures { result ≡ cursor_in bytes.now }
-    {
-        if bytes.len() != Cursor::BYTES {
-            return None;
-        }
-        let (hour, rest) = read_number(bytes, WIDTH)?;
-        let (cell, _) = read_number(rest, WIDTH)?;
+    fn from_numbers(numbers: &[u64; 2]) -> Option<Cursor> {
+        let [hour, cell] = *numbers;
         Some(Cursor { hour, cell })
     }
 }
 
 // Theorem: a root record has its length, and what is read of it is what was written.
-pub fn root_round_trip() -> u8
+pub fn root_round_trip()
     ensures { RootRoundTrip }
-{
-    0
-}
+{}
 
 // Theorem: the same of a cursor.
-pub fn cursor_round_trip() -> u8
+pub fn cursor_round_trip()
     ensures { CursorRoundTrip }
-{
-    0
-}
+{}

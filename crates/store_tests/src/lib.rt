@@ -6,7 +6,7 @@ mod tests {
     use std::test::Fail;
     use store::drawers::{cursor_drawer, page_drawer, root_drawer};
     use store::records::RecordError;
-    use store::{Cursor, PageSet, Root};
+    use store::{Cursor, PageSet, Record, Root, UnknownSet};
 
     // Set 2, hour 258, place 70,000 of the row.
     const ROOT: Root = Root {
@@ -81,7 +81,7 @@ mod tests {
         assert_eq!(rt; PageSet::None.shadow(), PageSet::First);
         assert_eq!(rt; PageSet::First.shadow(), PageSet::Second);
         assert_eq!(rt; PageSet::Second.shadow(), PageSet::First);
-        assert_eq!(rt; PageSet::from_number(2), Some(PageSet::Second));
-        assert_eq!(rt; PageSet::from_number(3), None);
+        assert_eq!(rt; PageSet::try_from(2), Ok(PageSet::Second));
+        assert_eq!(rt; PageSet::try_from(3), Err(UnknownSet(3)));
     }
 }

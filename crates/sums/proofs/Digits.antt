@@ -2,7 +2,7 @@
 use Rattle.std.proofs.Common.{◌≡◌, ℕ, zero, suc, ◌+◌, ◌*◌, ◌/◌, ◌%◌, ◌^◌, ◌<◌, ◌≤◌, true, ltb, List, [], ◌∷◌, ◌++◌, length, get_or, take, drop, replicate, sym, refl, ap, ◌∙◌, append_assoc, append-nil, mod-eq_of_lt, pow-suc, mul-suc, arith, lit<, lit≤, length-append}
 use native.Mathlib.Nat.{div-div-eq-div-mul, one-le-pow, pow-zero}
 use lib.Arith.{mod-mul}
-use Rattle.std.proofs.lemmas.List.{take_more, take_at, drop_at}
+use Rattle.std.proofs.lemmas.List.{take_more, take_at, drop_at, drop-drop}
 use Rattle.std.proofs.lemmas.Bool.{and_from, and_parts, ltb-true, lt-ltb}
 use Rattle.sums.specs.Digits.{digits, value, fits, row_bytes, row_numbers}
 use Rattle.sums.specs.Sums.{every}
@@ -98,6 +98,12 @@ pub length_numbers : (w c : ℕ) (bs : List ℕ) → length (row_numbers w c bs)
 unfolding row_numbers
 length_numbers w zero bs = refl
 length_numbers w (suc c) bs = ap suc (length_numbers w c (drop w bs))
+
+-- one number more is read
+pub numbers_more : (w c : ℕ) (bs : List ℕ) → row_numbers w (c + 1) bs ≡ row_numbers w c bs ++ value (take w (drop (w * c) bs)) ∷ []
+unfolding row_numbers
+numbers_more w zero bs = grind arith
+numbers_more w (suc c) bs = grind (arith, numbers_more w c (drop w bs), drop-drop)
 
 -- a row is read back, whatever stands behind it
 pub numbers_back : (w : ℕ) (ns rest : List ℕ) → every (fits w) ns ≡ true → row_numbers w (length ns) (row_bytes w ns ++ rest) ≡ ns

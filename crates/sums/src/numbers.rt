@@ -1,8 +1,8 @@
 // Numbers as bytes, the lowest first, and rows of numbers of one width.
-ghost use Rattle.std.specs.Prelude.{◌≡◌, ◌*◌, ◌≤◌, true, length, take, drop};
+ghost use Rattle.std.specs.Prelude.{◌≡◌, ◌*◌, ◌≤◌, true, length, take, drop, ◌↔◌, IsSome, IfSome, IfOk, IfErr, Ok, Err};
 ghost use Rattle.std.specs.Option.{option_map};
 ghost use Rattle.sums.specs.Digits.{widest, digits, value, fits, row_numbers};
-ghost use Rattle.sums.specs.Numbers.{NumberSays, row_answer, row_over, row_written};
+ghost use Rattle.sums.specs.Numbers.{NumberSays, row_room, row_answer, row_read, row_over, row_written};
 ghost use Rattle.sums.specs.Sums.{every};
 
 // No number has more bytes.
@@ -16,44 +16,70 @@ pub enum RowError {
     TooShort,
 }
 
+// How many bytes a number has.
+#[derive(Clone, Copy)]
+pub(crate) struct Width {
+    pub(crate) bytes: usize,
+    ghost within: { bytes ≤ widest },
+}
+
+impl Width {
+    fn new(bytes: usize) -> Option<Width>
+        ensures fits { IsSome result ↔ (bytes ≤ widest) }
+        ensures bytes { IfSome result (λ w. w.bytes ≡ bytes) }
+    {
+        if bytes > WIDEST {
+            return None;
+        }
+        Some(Width { bytes })
+    }
+}
+
 // The number in the first `width` bytes, the lowest first, and the bytes behind it.
 pub fn read_number(bytes: &[u8], width: usize) -> Option<(u64, &[u8])>
     ensures { NumberSays width bytes.now (option_map (λ p. (p.0, p.1.now)) result) }
 {
-    if width > WIDEST || width > bytes.len() {
+    let width = Width::new(width)?;
+    if width.bytes > bytes.len() {
         return None;
     }
     Some(number_and_rest(bytes, width))
 }
 
-fn number_and_rest(bytes: &[u8], width: usize) -> (u64, &[u8])
-    requires wide { width ≤ widest }
-    requires long { width ≤ length bytes.now }
-    ensures number { result.0 ≡ value (take width bytes.now) }
-    ensures small { fits width result.0 ≡ true }
-    ensures rest { result.1.now ≡ drop width bytes.now }
+fn number_and_rest(bytes: &[u8], width: Width) -> (u64, &[u8])
+    requires { width.bytes ≤ length bytes.now }
+    ensures number { result.0 ≡ value (take width.bytes bytes.now) }
+    ensures small { fits width.bytes result.0 ≡ true }
+    ensures rest { result.1.now ≡ drop width.bytes bytes.now }
 {
-    let (front, rest) = bytes.split_at(width);
+    let (front, rest) = bytes.split_at(width.bytes);
     let mut low = [0; WIDEST];
-    low[0..width].copy_from_slice(front);
+    low[..width.bytes].copy_from_slice(front);
     (u64::from_le_bytes(low), rest)
 }
 
 // Reads a row of numbers from the front of the bytes, and answers the bytes behind it.
-pub(crate) fn take_row<'a>(bytes: &'a [u8], width: usize, numbers: &mut [u64]) -> &'a [u8]
-    requires wide { width ≤ widest }
-    requires long { width * length numbers.old ≤ length bytes.now }
-    ensures numbers { numbers.new ≡ row_numbers width (length numbers.old) bytes.now }
-    ensures small { every (fits width) numbers.new ≡ true }
-    ensures rest { result.now ≡ drop (width * length numbers.old) bytes.now }
+pub(crate) fn take_row<'a>(bytes: &'a [u8], width: Width, numbers: &mut [u64]) -> &'a [u8]
+    requires { width.bytes * length numbers.old ≤ length bytes.now }
+    ensures numbers { numbers.new ≡ row_numbers width.bytes (length numbers.old) bytes.now }
+    ensures small { every (fits width.bytes) numbers.new ≡ true }
+    ensures rest { result.now ≡ drop (width.bytes * length numbers.old) bytes.now }
 {
     let mut rest = bytes;
     for number in numbers.iter_mut() {
-        let (first, behind) = number_and_rest(rest, width);
-        *number = first;
-        rest = behind;
+        (*number, rest) = number_and_rest(rest, width);
     }
     rest
+}
+
+// Reads a row of numbers from the front of the bytes.
+pub fn read_row(bytes: &[u8], width: usize, numbers: &mut [u64]) -> Result<(), RowError>
+    ensures told { result ≡ row_answer width numbers.old bytes.now }
+    ensures numbers { numbers.new ≡ row_read width bytes.now numbers.old }
+{
+    let width = row_width(width, numbers.len(), bytes.len())?;
+    take_row(bytes, width, numbers);
+    Ok(())
 }
 
 // Writes a row of numbers over the front of the bytes, each in `width` bytes. Of a number that does not fit, the low ones are written.
@@ -61,28 +87,32 @@ pub fn write_row(numbers: &[u64], width: usize, out: &mut [u8]) -> Result<(), Ro
     ensures told { result ≡ row_answer width numbers.now out.old }
     ensures out { out.new ≡ row_written width numbers.now out.old }
 {
-    if width > WIDEST {
-        return Err(RowError::TooWide);
-    }
-    let Some(len) = width.checked_mul(numbers.len()) else {
-        return Err(RowError::TooShort);
-    };
-    if len > out.len() {
-        return Err(RowError::TooShort);
-    }
+    let width = row_width(width, numbers.len(), out.len())?;
     put_row(numbers, width, out);
     Ok(())
 }
 
-pub(crate) fn put_row(numbers: &[u64], width: usize, out: &mut [u8])
-    requires wide { width ≤ widest }
-    requires long { width * length numbers.now ≤ length out.old }
-    ensures { out.new ≡ row_over width numbers.now out.old }
+// The width of a row of so many numbers that has room in so many bytes.
+fn row_width(width: usize, count: usize, bytes: usize) -> Result<Width, RowError>
+    ensures ok { IfOk result (λ w. (w.bytes ≡ width) × (row_room width count bytes ≡ Ok tt)) }
+    ensures err { IfErr result (λ e. row_room width count bytes ≡ Err e) }
 {
-    let mut at = 0;
-    for number in numbers {
-        put_number(*number, &mut out[at..at + width]);
-        at += width;
+    let width = Width::new(width).ok_or(RowError::TooWide)?;
+    let len = width.bytes.checked_mul(count).ok_or(RowError::TooShort)?;
+    if len > bytes {
+        return Err(RowError::TooShort);
+    }
+    Ok(width)
+}
+
+pub(crate) fn put_row(numbers: &[u64], width: Width, out: &mut [u8])
+    requires { width.bytes * length numbers.now ≤ length out.old }
+    ensures { out.new ≡ row_over width.bytes numbers.now out.old }
+{
+    // By the place: what is written through parts that a loop moves along is not known behind it.
+    for (i, number) in numbers.iter().enumerate() {
+        let at = width.bytes * i;
+        put_number(*number, &mut out[at..at + width.bytes]);
     }
 }
 
@@ -91,5 +121,5 @@ fn put_number(number: u64, out: &mut [u8])
     ensures { out.new ≡ digits (length out.old) number }
 {
     let bytes = number.to_le_bytes();
-    out.copy_from_slice(&bytes[0..out.len()]);
+    out.copy_from_slice(&bytes[..out.len()]);
 }
