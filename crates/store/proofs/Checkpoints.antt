@@ -45,14 +45,10 @@ shadow_page ds s p d bs at other =
     kept_elsewhere ds d bs (λ e. omega arith) (λ e. omega arith)
     (λ q e there same. other (pages_apart s (kept_of ds).root.set p q d at (there ∙ ap Some same)).0)
 
--- two variants are never equal
-differ : ◌≡◌ {A = ℕ} 0 1 → ⊥
-differ z = omega arith
-
 pub shadow_other : (s : PageSet) → (shadow_of s ≡ page_set.None → ⊥) × (shadow_of s ≡ s → ⊥)
-shadow_other page_set.None = (λ e. differ cc, λ e. differ cc)
-shadow_other First = (λ e. differ cc, λ e. differ cc)
-shadow_other Second = (λ e. differ cc, λ e. differ cc)
+shadow_other page_set.None = (λ e. cc, λ e. cc)
+shadow_other First = (λ e. cc, λ e. cc)
+shadow_other Second = (λ e. cc, λ e. cc)
 
 -- one page more of a set
 pub page_more : (ds : Drawers) (s : PageSet) (ss cs : List ℕ) (n d : ℕ) → length ds ≡ drawers → PagesKept ds s ss cs n → page_drawer s n ≡ Some d →

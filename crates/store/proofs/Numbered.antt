@@ -1,6 +1,6 @@
 -- The drawers' numbers: all different, and below 256.
 use Rattle.std.proofs.Common.{◌≡◌, ℕ, ◌+◌, ◌<◌, Bool, true, false, cond, ltb, Some, None, Option, refl, ap, ◌∙◌, arith, lit<}
-use Rattle.std.proofs.lemmas.Bool.{lt-ltb, ltb-true, cond-true}
+use Rattle.std.proofs.lemmas.Bool.Decides.{nat_tests}
 use Rattle.sums.specs.Cells.{pages}
 use Rattle.store.specs.Drawers.{drawers, cursor_copy, first_set, second_set, page_drawer, DrawersLaw}
 use Rattle.store.specs.declared.records.PageSet.{PageSet}
@@ -9,17 +9,10 @@ use Rattle.store.specs.declared.records.PageSet.TheVariants as page_set
 
 -- a page of a set whose pages lie from a drawer on
 pub lies_at : (from p d : ℕ) → cond (ltb p pages) (Some (from + p)) None ≡ Some d → (p < pages) × (d ≡ from + p)
-lies_at from p d e = let g = go (ltb p pages) e in (ltb-true p pages g.0, g.1)
-  where
-    go : (b : Bool) → cond b (Some (from + p)) None ≡ Some d → (b ≡ true) × (d ≡ from + p)
-    go true e = (refl, cc)
-    go false e = (cc, cc)
+lies_at from p d e = grind (arith, nat_tests)
 
 pub there : (from p d : ℕ) → p < pages → from + p ≡ d → cond (ltb p pages) (Some (from + p)) None ≡ Some d
-there from p d lt e = cond-true (ltb p pages) _ _ (lt-ltb p pages lt) ∙ ap Some e
-
-pub none_there : {A : Type 0} (d : ℕ) → ◌≡◌ {A = Option ℕ} None (Some d) → A
-none_there d e = let z : ◌≡◌ {A = ℕ} 0 1 = cc in absurd (omega arith)
+there from p d lt e = grind (arith, nat_tests)
 
 pub page_has_drawer : (s : PageSet) (p : ℕ) → (s ≡ page_set.None → ⊥) → p < pages → (d : ℕ) × (page_drawer s p ≡ Some d)
 page_has_drawer page_set.None p some lt = absurd (some refl)
@@ -27,23 +20,23 @@ page_has_drawer First p some lt = (first_set + p, there first_set p _ lt refl)
 page_has_drawer Second p some lt = (second_set + p, there second_set p _ lt refl)
 
 pub page_within : (s : PageSet) (p d : ℕ) → page_drawer s p ≡ Some d → p < pages
-page_within page_set.None p d e = none_there d e
+page_within page_set.None p d e = absurd cc
 page_within First p d e = (lies_at first_set p d e).0
 page_within Second p d e = (lies_at second_set p d e).0
 
 pub page_apart : (s : PageSet) (p d : ℕ) → page_drawer s p ≡ Some d → (cursor_copy < d) × (d < drawers)
-page_apart page_set.None p d e = none_there d e
+page_apart page_set.None p d e = absurd cc
 page_apart First p d e = let l = lies_at first_set p d e in (omega arith, omega arith)
 page_apart Second p d e = let l = lies_at second_set p d e in (omega arith, omega arith)
 
 pub pages_apart : (s t : PageSet) (p q d : ℕ) → page_drawer s p ≡ Some d → page_drawer t q ≡ Some d → (s ≡ t) × (p ≡ q)
-pages_apart page_set.None t p q d e f = none_there d e
-pages_apart First page_set.None p q d e f = none_there d f
-pages_apart First First p q d e f = let l = lies_at first_set p d e in let m = lies_at first_set q d f in (refl, omega arith)
-pages_apart First Second p q d e f = let l = lies_at first_set p d e in let m = lies_at second_set q d f in absurd (omega arith)
-pages_apart Second page_set.None p q d e f = none_there d f
-pages_apart Second First p q d e f = let l = lies_at second_set p d e in let m = lies_at first_set q d f in absurd (omega arith)
-pages_apart Second Second p q d e f = let l = lies_at second_set p d e in let m = lies_at second_set q d f in (refl, omega arith)
+pages_apart page_set.None t p q d e f = absurd cc
+pages_apart First page_set.None p q d e f = absurd cc
+pages_apart First First p q d e f = grind (arith, lies_at first_set p d e, lies_at first_set q d f)
+pages_apart First Second p q d e f = grind (arith, lies_at first_set p d e, lies_at second_set q d f)
+pages_apart Second page_set.None p q d e f = absurd cc
+pages_apart Second First p q d e f = grind (arith, lies_at second_set p d e, lies_at first_set q d f)
+pages_apart Second Second p q d e f = grind (arith, lies_at second_set p d e, lies_at second_set q d f)
 
 pub drawers_law : DrawersLaw
 unfolding DrawersLaw

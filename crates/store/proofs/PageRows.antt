@@ -2,6 +2,7 @@
 use Rattle.std.proofs.Common.{◌≡◌, ℕ, zero, suc, ◌+◌, ◌-◌, ◌*◌, ◌<◌, ◌≤◌, List, ◌++◌, length, take, drop, Some, sym, refl, ap, ◌∙◌, append_assoc, arith, length-append, length-drop, take-add}
 use lib.ListN.{length-replicate}
 use Rattle.std.proofs.lemmas.List.{take_at, drop_at, drop-drop, nil_from_length, take-append-drop, length-take-le}
+use Rattle.std.proofs.lemmas.Grind.{common_steps}
 use Rattle.sums.specs.Cells.{pages, slots, places}
 use Rattle.sums.specs.Tables.{zero_table}
 use Rattle.sums.specs.Written.{written}
@@ -11,13 +12,11 @@ use Rattle.store.specs.Kept.{rows_from, table_in, page_cut}
 use Rattle.store.specs.declared.records.PageSet.{PageSet}
 use Rattle.store.specs.declared.records.PageSet.TheVariants.{First, Second}
 use Rattle.store.specs.declared.records.PageSet.TheVariants as page_set
-use Rattle.store.proofs.Numbered.{lies_at, there, none_there}
+use Rattle.store.proofs.Numbered.{lies_at, there}
 
 -- the cut of the next page is that of the page, behind the first page
 cut_behind : (p : ℕ) (xs : List ℕ) → page_cut (suc p) xs ≡ page_cut p (drop slots xs)
-cut_behind p xs =
-    let e : slots * suc p ≡ slots + slots * p = omega arith in
-    ap (λ k. take slots (drop k xs)) e ∙ ap (take slots) (sym (drop-drop (slots * p) slots xs))
+cut_behind p xs = grind (arith, drop-drop (slots * p) slots xs)
 
 -- a table with one page more of another
 module _ (p : ℕ) (xs ys zs : List ℕ) (len : length xs ≡ places) (lt : p < pages) (page : length ys ≡ slots) where
@@ -28,15 +27,8 @@ module _ (p : ℕ) (xs ys zs : List ℕ) (len : length xs ≡ places) (lt : p < 
       take (slots * suc p) (written xs (slots * p) ys) ≡ take (slots * suc p) zs
   table_next cut front =
       let at = slots * p in
-      let e : slots * suc p ≡ at + slots = omega arith in
-      let n : length (take at xs ++ ys) ≡ slots * suc p =
-      length-append (take at xs) ys ∙ omega (arith, length-take-le at xs (omega arith)) in
-      ap (take (slots * suc p)) (sym (append_assoc (take at xs) ys (drop (at + length ys) xs)))
-      ∙ take_at (take at xs ++ ys) (drop (at + length ys) xs) (slots * suc p) n
-      ∙ ap (λ l. l ++ ys) front
-      ∙ ap (λ l. take at zs ++ l) (sym cut)
-      ∙ sym (take-add at slots zs)
-      ∙ ap (λ k. take k zs) (sym e)
+      let n : length (take at xs ++ ys) ≡ slots * suc p = grind (arith, length-append {A = ℕ}, length-take-le at xs (omega arith)) in
+      grind (arith, append_assoc (take at xs) ys (drop (at + length ys) xs), take_at (take at xs ++ ys) (drop (at + length ys) xs) (slots * suc p) n, take-add at slots zs)
 
 module _ (read : List ℕ → List ℕ) where
   -- drawers with the same bytes
@@ -44,9 +36,7 @@ module _ (read : List ℕ → List ℕ) where
   unfolding rows_from
   rows_same ds es d zero same = refl
   rows_same ds es d (suc n) same =
-      let first : drawer_at ds d ≡ drawer_at es d = same d (omega arith) (omega arith) in
-      let more : rows_from read ds (suc d) n ≡ rows_from read es (suc d) n = rows_same ds es (suc d) n (λ e le lt. same e (omega arith) (omega arith)) in
-      cc
+      grind (arith, same d (omega arith) (omega arith), rows_same ds es (suc d) n (λ e le lt. same e (omega arith) (omega arith)))
 
   -- a row whose cuts they are
   rows_are : (ds : Drawers) (d n : ℕ) (xs : List ℕ) → length xs ≡ slots * n → ((p : ℕ) → p < n → read (drawer_at ds (d + p)) ≡ page_cut p xs) →
@@ -54,36 +44,21 @@ module _ (read : List ℕ → List ℕ) where
   unfolding rows_from
   rows_are ds d zero xs len cuts = sym (nil_from_length xs (omega arith))
   rows_are ds d (suc n) xs len cuts =
-      let here : d + 0 ≡ d = omega arith in
-      let first : read (drawer_at ds d) ≡ take slots xs = ap (λ k. read (drawer_at ds k)) (sym here) ∙ cuts 0 (omega arith) in
-      let more : rows_from read ds (suc d) n ≡ drop slots xs =
-      rows_are ds (suc d) n (drop slots xs) (length-drop slots xs ∙ omega arith) (λ p lt. behind p lt) in
-      ap (λ l. l ++ rows_from read ds (suc d) n) first ∙ ap (λ l. take slots xs ++ l) more ∙ take-append-drop slots xs
-    where
-      behind : (p : ℕ) → p < n → read (drawer_at ds (suc d + p)) ≡ page_cut p (drop slots xs)
-      behind p lt =
-          let e : suc d + p ≡ d + suc p = omega arith in
-          ap (λ k. read (drawer_at ds k)) e ∙ cuts (suc p) (omega arith) ∙ cut_behind p xs
+      let behind : (p : ℕ) → p < n → read (drawer_at ds (suc d + p)) ≡ page_cut p (drop slots xs) =
+      λ p lt. grind (arith, cuts (suc p) (omega arith), cut_behind p xs) in
+      grind (arith, cuts 0 (omega arith), take-append-drop slots xs, rows_are ds (suc d) n (drop slots xs) (length-drop slots xs ∙ omega arith) behind)
 
   module _ (whole : (bs : List ℕ) → length (read bs) ≡ slots) where
     length_rows : (ds : Drawers) (d n : ℕ) → length (rows_from read ds d n) ≡ slots * n
     unfolding rows_from
     length_rows ds d zero = refl
-    length_rows ds d (suc n) =
-        length-append (read (drawer_at ds d)) (rows_from read ds (suc d) n) ∙ omega (arith, whole (drawer_at ds d), length_rows ds (suc d) n)
+    length_rows ds d (suc n) = grind (arith, common_steps, whole, length_rows ds (suc d) n)
 
     rows_cut : (ds : Drawers) (d n p : ℕ) → p < n → page_cut p (rows_from read ds d n) ≡ read (drawer_at ds (d + p))
     unfolding rows_from
     rows_cut ds d zero p lt = absurd (omega arith)
-    rows_cut ds d (suc n) zero lt =
-        let here : d ≡ d + 0 = omega arith in
-        take_at (read (drawer_at ds d)) (rows_from read ds (suc d) n) slots (whole (drawer_at ds d)) ∙ ap (λ k. read (drawer_at ds k)) here
-    rows_cut ds d (suc n) (suc p) lt =
-        let e : suc d + p ≡ d + suc p = omega arith in
-        cut_behind p _
-        ∙ ap (page_cut p) (drop_at (read (drawer_at ds d)) (rows_from read ds (suc d) n) slots (whole (drawer_at ds d)))
-        ∙ rows_cut ds (suc d) n p (omega arith)
-        ∙ ap (λ k. read (drawer_at ds k)) e
+    rows_cut ds d (suc n) zero lt = grind (arith, take_at (read (drawer_at ds d)) (rows_from read ds (suc d) n) slots (whole (drawer_at ds d)))
+    rows_cut ds d (suc n) (suc p) lt = grind (arith, cut_behind, drop_at (read (drawer_at ds d)) (rows_from read ds (suc d) n) slots (whole (drawer_at ds d)), rows_cut ds (suc d) n p (omega arith))
 
 -- the drawers of a set whose pages lie from one on
 behind_first : (from e : ℕ) → from ≤ e → e < from + pages → (p : ℕ) × (p < pages) × (from + p ≡ e)
@@ -121,7 +96,7 @@ module _ (read : List ℕ → List ℕ) where
 
     pub table_cut : (ds : Drawers) (s : PageSet) (p d : ℕ) → page_drawer s p ≡ Some d → page_cut p (table_in read ds s) ≡ read (drawer_at ds d)
     unfolding table_in
-    table_cut ds page_set.None p d e = none_there d e
+    table_cut ds page_set.None p d e = absurd cc
     table_cut ds First p d e =
         let l = lies_at first_set p d e in
         rows_cut read whole ds first_set pages p l.0 ∙ ap (λ k. read (drawer_at ds k)) (sym l.1)

@@ -1,9 +1,10 @@
 -- Numbers and rows of numbers as bytes: how long they are, that each byte is one, and that what is read is what was written.
-use Rattle.std.proofs.Common.{◌≡◌, ℕ, zero, suc, ◌+◌, ◌*◌, ◌/◌, ◌%◌, ◌^◌, ◌<◌, ◌≤◌, true, ltb, List, [], ◌∷◌, ◌++◌, length, get_or, take, drop, replicate, sym, refl, ap, ◌∙◌, append_assoc, append-nil, mod-eq_of_lt, pow-suc, mul-suc, arith, lit<, lit≤, length-append}
+use Rattle.std.proofs.Common.{◌≡◌, ℕ, zero, suc, ◌+◌, ◌*◌, ◌/◌, ◌%◌, ◌^◌, ◌<◌, ◌≤◌, true, ltb, List, [], ◌∷◌, ◌++◌, length, get_or, take, drop, replicate, sym, refl, ap, ◌∙◌, append_assoc, append-nil, mod-eq_of_lt, pow-suc, arith, lit<, lit≤}
 use native.Mathlib.Nat.{div-div-eq-div-mul, one-le-pow, pow-zero}
 use lib.Arith.{mod-mul}
 use Rattle.std.proofs.lemmas.List.{take_more, take_at, drop_at, drop-drop}
 use Rattle.std.proofs.lemmas.Bool.{and_from, and_parts, ltb-true, lt-ltb}
+use Rattle.std.proofs.lemmas.Grind.{common_steps}
 use Rattle.sums.specs.Digits.{digits, value, fits, row_bytes, row_numbers}
 use Rattle.sums.specs.Sums.{every}
 use Rattle.sums.proofs.Everys.{every_append}
@@ -78,12 +79,12 @@ value_eight (a ∷ b ∷ c ∷ d ∷ e ∷ f ∷ g ∷ h ∷ i ∷ bs) p = absur
 pub length_row : (w : ℕ) (ns : List ℕ) → length (row_bytes w ns) ≡ w * length ns
 unfolding row_bytes
 length_row w [] = omega arith
-length_row w (n ∷ ns) = length-append (digits w n) (row_bytes w ns) ∙ omega (arith, length_digits w n, length_row w ns, mul-suc w (length ns))
+length_row w (n ∷ ns) = grind (arith, common_steps, length_digits w n, length_row w ns)
 
 row_append : (w : ℕ) (ms ns : List ℕ) → row_bytes w (ms ++ ns) ≡ row_bytes w ms ++ row_bytes w ns
 unfolding row_bytes
 row_append w [] ns = refl
-row_append w (m ∷ ms) ns = ap (λ l. digits w m ++ l) (row_append w ms ns) ∙ sym (append_assoc (digits w m) (row_bytes w ms) (row_bytes w ns))
+row_append w (m ∷ ms) ns = grind (arith, append_assoc (digits w m) (row_bytes w ms) (row_bytes w ns), row_append w ms ns)
 
 row_one : (w n : ℕ) → row_bytes w (n ∷ []) ≡ digits w n
 unfolding row_bytes
@@ -91,8 +92,7 @@ row_one w n = append-nil (digits w n)
 
 -- one number more
 pub row_more : (w : ℕ) (ns : List ℕ) (i : ℕ) → i < length ns → row_bytes w (take (i + 1) ns) ≡ row_bytes w (take i ns) ++ digits w (get_or ns i 0)
-row_more w ns i lt =
-    ap (row_bytes w) (take_more ns i 0 lt) ∙ row_append w (take i ns) (get_or ns i 0 ∷ []) ∙ ap (λ l. row_bytes w (take i ns) ++ l) (row_one w (get_or ns i 0))
+row_more w ns i lt = rw (take_more ns i 0 lt, row_append, row_one)
 
 pub length_numbers : (w c : ℕ) (bs : List ℕ) → length (row_numbers w c bs) ≡ c
 unfolding row_numbers
@@ -112,14 +112,9 @@ numbers_back w [] rest all = refl
 numbers_back w (n ∷ ns) rest all =
     let small : fits w n ≡ true = (and_parts _ _ all).0 in
     let more : every (fits w) ns ≡ true = (and_parts (fits w n) _ all).1 in
-    let e : (digits w n ++ row_bytes w ns) ++ rest ≡ digits w n ++ (row_bytes w ns ++ rest) = append_assoc (digits w n) (row_bytes w ns) rest in
-    let first : take w ((digits w n ++ row_bytes w ns) ++ rest) ≡ digits w n = ap (take w) e ∙ take_at (digits w n) (row_bytes w ns ++ rest) w (length_digits w n) in
-    let behind : drop w ((digits w n ++ row_bytes w ns) ++ rest) ≡ row_bytes w ns ++ rest =
-    ap (drop w) e ∙ drop_at (digits w n) (row_bytes w ns ++ rest) w (length_digits w n) in
-    ap (λ x. value x ∷ row_numbers w (length ns) (drop w ((digits w n ++ row_bytes w ns) ++ rest))) first
-    ∙ ap (λ x. value (digits w n) ∷ row_numbers w (length ns) x) behind
-    ∙ ap (λ x. x ∷ row_numbers w (length ns) (row_bytes w ns ++ rest)) (value_back w n small)
-    ∙ ap (λ x. n ∷ x) (numbers_back w ns rest more)
+    let behind = row_bytes w ns ++ rest in
+    grind (arith, append_assoc (digits w n) (row_bytes w ns) rest, take_at (digits w n) behind w (length_digits w n), drop_at (digits w n) behind w (length_digits w n),
+      value_back w n small, numbers_back w ns rest more)
 
 pub digits_bytes : (w n : ℕ) → every (λ b. ltb b 256) (digits w n) ≡ true
 unfolding digits every

@@ -1,7 +1,8 @@
 -- Writing over a part of a list: by a slice's part, and once more behind it.
-use Rattle.std.proofs.Common.{◌≡◌, ℕ, ◌+◌, ◌-◌, ◌≤◌, List, ◌++◌, length, take, drop, ap, ◌∙◌, append-nil, arith, length-append, length-drop, length-take}
+use Rattle.std.proofs.Common.{◌≡◌, ℕ, ◌+◌, ◌-◌, ◌≤◌, List, ◌++◌, length, take, arith, length-append, length-drop, length-take}
 use borrow.Rule.Slice.PartMut.{put_mid}
-use Rattle.std.proofs.lemmas.List.{drop-drop, drop_all}
+use Rattle.std.proofs.lemmas.List.{drop-drop}
+use Rattle.std.proofs.lemmas.Grind.{common_steps}
 use Rattle.sums.specs.Written.{written}
 
 module _ {A : Type 0} where
@@ -11,8 +12,7 @@ module _ {A : Type 0} where
 
   -- as a write to all from a place on leaves it
   pub put_mid_rest : (xs : List A) (at : ℕ) (ys : List A) → put_mid at (length xs - at) xs ys ≡ take at xs ++ ys
-  put_mid_rest xs at ys =
-      ap (λ l. take at xs ++ (ys ++ l)) (drop_all (length xs - at) (drop at xs) (simp length-drop (omega arith))) ∙ ap (λ l. take at xs ++ l) (append-nil ys)
+  put_mid_rest xs at ys = grind (arith, common_steps)
 
   pub length_written : (xs : List A) (at : ℕ) (ys : List A) → at + length ys ≤ length xs → length (written xs at ys) ≡ length xs
   length_written xs at ys le = simp (length-append, length-take, length-drop) (omega arith)
