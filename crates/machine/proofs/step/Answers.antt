@@ -1,14 +1,15 @@
-use Rattle.std.proofs.Common.{arith}
-use Rattle.std.proofs.lemmas.Bool.{both_ways}
-use Rattle.machine.proofs.Stepped.{stepped, refused}
+use Rattle.std.proofs.Common.{◌≡◌, rules, Ok, length, refl, sym}
+use Rattle.gauge.specs.Memory.{cells}
+use Rattle.machine.specs.Answers.{as_event}
+use Rattle.machine.specs.Entry.{bytes_of, step_fits}
+use Rattle.machine.proofs.Stepped.{stepped}
 use Rattle.machine.proofs.step.Goals as goal
 
-pub returns-then-memory-ne-MEMORY : goal.returns-then-memory-ne-MEMORY
-returns-then-memory-ne-MEMORY c = refused _ _ _ _ _ _ _ _ (λ f. omega (arith, c.then-memory-ne-MEMORY.either))
-
-pub returns-in_default : goal.returns-in_default
-returns-in_default c = refused _ _ _ _ _ _ _ _ (λ f. both_ways _ c.in_default.ensures f.1)
-
 pub returns : goal.returns
-returns c = stepped _ _ _ _ _ _ _ _ _ _ _ _ _ _ (omega arith, c.in-Some.ensures.0, omega arith, omega arith, omega arith)
-    c.in-Some.ensures.1 c.react.ensures c.tell.ensures.told c.tell.ensures.row
+returns c =
+    let m = c.args.memory.now in
+    let ev = as_event c.args.event in
+    let fits : step_fits m (bytes_of ev) c.args.out.now ≡ Ok tt = rw (← c.bytes.ensures) (sym c.in_ok-check_sizes.ensures) in
+    let len : length m ≡ cells = search rules in
+    let done = stepped m ev _ _ _ _ len c.react.ensures in
+    simp fits (c.react.result, refl, done.0, done.1)
