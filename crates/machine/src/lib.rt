@@ -1,22 +1,22 @@
 // One machine: what it is told, what it does then, and one step from the one to the other.
 #![tactic(auto)]
 
-ghost use Rattle.std.specs.Prelude.{◌≡◌, ◌≤◌, length};
+ghost use Rattle.std.specs.Prelude.{◌≡◌, length};
 ghost use Rattle.gauge.specs.Deeds.{Did};
-ghost use Rattle.gauge.specs.Memory.{cells};
 ghost use Rattle.machine.specs.Answers.{as_event};
 ghost use Rattle.machine.specs.Entry.{bytes_of, StepSays, step_fits};
 ghost use Rattle.machine.specs.Machine.{reacts};
 
 use boot::{recall, wake};
 use gauge::memory::{CELLS, PHASE};
-use gauge::{Phase, accumulate, end, fill, go_on};
+use gauge::{Buffer, Memory, Phase, accumulate, end, fill, go_on};
 use std::error::Error;
 use std::fmt;
 
 mod boot;
 
 pub use gauge::Act;
+pub use gauge::memory::LETTER;
 
 #[derive(Clone, Copy)]
 pub enum Event<'a> {
@@ -52,8 +52,6 @@ pub const MACHINES: u64 = 8;
 pub const DRAWERS: u64 = 256;
 // How many readings that are not released a roll has at most.
 pub const ROLL: u64 = 4096;
-// How many bytes a drawer or a letter has at most.
-pub const LETTER: usize = 4096;
 
 impl fmt::Display for StepError {
     fn fmt<W: fmt::Write>(&self, f: &mut fmt::Formatter<W>) -> fmt::Result {
@@ -79,28 +77,12 @@ impl<'a> Event<'a> {
     }
 }
 
-fn check_sizes(memory: &[u64], bytes: &[u8], out: &[u8]) -> Result<(), StepError>
-    ensures { result ≡ step_fits memory.now bytes.now out.now }
-{
-    if memory.len() != MEMORY {
-        return Err(StepError::MemoryLength);
-    }
-    if bytes.len() > LETTER {
-        return Err(StepError::TooManyBytes);
-    }
-    if out.len() < LETTER {
-        return Err(StepError::BufferTooShort);
-    }
-    Ok(())
-}
-
 // What the machine does when it is told of an event. One that cannot come in its phase changes nothing.
-fn react(memory: &mut [u64], event: Event<'_>, out: &mut [u8]) -> Act
-    requires memory_len { length memory.old ≡ cells }
-    requires in_bounds { 4096 ≤ length out.old }
-    ensures { Did (reacts memory.old (as_event event.entry)) result memory.new out.old out.new }
+fn react(memory: &mut Memory, event: Event<'_>, out: &mut Buffer) -> Act
+    ensures did { Did (reacts memory.old (as_event event.entry)) result memory.new out.old out.new }
+    ensures long { length out.new ≡ 4096 }
 {
-    let reading = memory[PHASE] == Phase::Reading.number();
+    let reading = Phase::try_from(memory[PHASE]) == Ok(Phase::Reading);
     match event {
         Event::Wakes(_) => wake(memory),
         Event::Comes(time, place, value) if reading => accumulate(memory, time, place, value, out),
@@ -116,6 +98,14 @@ fn react(memory: &mut [u64], event: Event<'_>, out: &mut [u8]) -> Act
 pub fn step(memory: &mut [u64], event: Event<'_>, out: &mut [u8]) -> Result<Act, StepError>
     ensures { StepSays memory.old (as_event event.entry) out.old (step_fits memory.old (bytes_of (as_event event.entry)) out.old) result memory.new out.new }
 {
-    check_sizes(memory, event.bytes(), out)?;
+    let Some(memory) = memory.as_mut_array::<MEMORY>() else {
+        return Err(StepError::MemoryLength);
+    };
+    if event.bytes().len() > LETTER {
+        return Err(StepError::TooManyBytes);
+    }
+    let Some(out) = out.first_chunk_mut::<LETTER>() else {
+        return Err(StepError::BufferTooShort);
+    };
     Ok(react(memory, event, out))
 }
