@@ -22,7 +22,7 @@ pub(crate) fn wake(memory: &mut Memory) -> Act
     Act::Recall(u64::from(root_drawer()))
 }
 
-// Takes in what the drawer holds that was asked for.
+// Takes in what the drawer holds that was asked for, by the phase, which the lent memory keeps as a number.
 pub(crate) fn recall(memory: &mut Memory, bytes: &[u8]) -> Act
     ensures { Did (recalled memory.old bytes.now) result memory.new [] [] }
 {

@@ -1,7 +1,7 @@
 // One machine: what it is told, what it does then, and one step from the one to the other.
 #![tactic(auto)]
 
-ghost use Rattle.std.specs.Prelude.{◌≡◌, length};
+ghost use Rattle.std.specs.Prelude.{◌≡◌, ◌<◌, ◌≤◌, length, MatchResult};
 ghost use Rattle.gauge.specs.Deeds.{Did};
 ghost use Rattle.machine.specs.Answers.{as_event};
 ghost use Rattle.machine.specs.Entry.{bytes_of, StepSays, step_fits};
@@ -77,6 +77,15 @@ impl<'a> Event<'a> {
     }
 }
 
+fn check_length(bytes: &[u8]) -> Result<(), StepError>
+    ensures { MatchResult result (λ _. length bytes.now ≤ 4096) (λ e. (e ≡ StepError.TooManyBytes) × (4096 < length bytes.now)) }
+{
+    if bytes.len() > LETTER {
+        return Err(StepError::TooManyBytes);
+    }
+    Ok(())
+}
+
 // What the machine does when it is told of an event. One that cannot come in its phase changes nothing.
 fn react(memory: &mut Memory, event: Event<'_>, out: &mut Buffer) -> Act
     ensures did { Did (reacts memory.old (as_event event.entry)) result memory.new out.old out.new }
@@ -101,9 +110,7 @@ pub fn step(memory: &mut [u64], event: Event<'_>, out: &mut [u8]) -> Result<Act,
     let Some(memory) = memory.as_mut_array::<MEMORY>() else {
         return Err(StepError::MemoryLength);
     };
-    if event.bytes().len() > LETTER {
-        return Err(StepError::TooManyBytes);
-    }
+    check_length(event.bytes())?;
     let Some(out) = out.first_chunk_mut::<LETTER>() else {
         return Err(StepError::BufferTooShort);
     };

@@ -1,23 +1,25 @@
 use Rattle.std.proofs.Common.{◌≡◌, length, drop, refl, sym, ◌∙◌, ap}
 use Rattle.std.proofs.lemmas.Bool.{eq-eqb, le-leb, lt-leb}
 use Rattle.std.proofs.lemmas.List.{take-append-drop, length-take-le}
+use Rattle.std.proofs.lemmas.Result.{err_from_is_err_and}
 use Rattle.gauge.specs.Memory.{cells}
 use Rattle.machine.specs.Answers.{as_event}
 use Rattle.machine.specs.Machine.{reacts}
 use Rattle.machine.proofs.Stepped.{stepped, did_longer}
 use Rattle.machine.proofs.step.Goals as goal
 
-pub returns-then-bytes-gt-LETTER : goal.returns-then-bytes-gt-LETTER
-returns-then-bytes-gt-LETTER c =
+pub returns-in_err-check_length : goal.returns-in_err-check_length
+returns-in_err-check_length c =
     let whole = c.in-Some.ensures.cases in
-    let many = lt-leb (length c.bytes.result.now) 4096 c.if-bytes-gt-LETTER.true in
-    simp (← c.bytes.ensures, eq-eqb (length c.args.memory.now) cells whole.long, many) (refl, whole.same, refl)
+    let many = c.in_err-check_length.ensures in
+    let exit = err_from_is_err_and c.from_residual.result c.from_residual.ensures.1 in
+    simp (← c.bytes.ensures, eq-eqb (length c.args.memory.now) cells whole.long, lt-leb (length c.bytes.result.now) 4096 many.1) (cc (exit.1, exit.2, many.0), whole.same, refl)
 
 pub returns-in_default-first_chunk_mut : goal.returns-in_default-first_chunk_mut
 returns-in_default-first_chunk_mut c =
     let whole = c.in-Some.ensures.cases in
     let short = lt-leb 4096 (length c.args.out.now) c.in_default-first_chunk_mut.ensures.cases in
-    simp (← c.bytes.ensures, eq-eqb (length c.args.memory.now) cells whole.long, le-leb (length c.bytes.result.now) 4096 c.if-bytes-gt-LETTER.false, short) (refl, whole.same, refl)
+    simp (← c.bytes.ensures, eq-eqb (length c.args.memory.now) cells whole.long, le-leb (length c.bytes.result.now) 4096 c.in_ok-check_length.ensures, short) (refl, whole.same, refl)
 
 pub returns : goal.returns
 returns c =
@@ -30,5 +32,5 @@ returns c =
     let did = did_longer (reacts c.in-Some.memory.now ev) c.react.result _ _ _ (drop 4096 out) long c.react.ensures.did in
     let joined = take-append-drop 4096 out in
     let done = stepped m ev c.react.result _ _ _ whole.long (simp (whole.same, front.same, joined) at did) in
-    simp (← c.bytes.ensures, eq-eqb (length m) cells whole.long, le-leb (length c.bytes.result.now) 4096 c.if-bytes-gt-LETTER.false, le-leb 4096 (length out) front.enough)
+    simp (← c.bytes.ensures, eq-eqb (length m) cells whole.long, le-leb (length c.bytes.result.now) 4096 c.in_ok-check_length.ensures, le-leb 4096 (length out) front.enough)
     (c.react.result, refl, done.0, done.1)
