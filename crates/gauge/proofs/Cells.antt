@@ -1,9 +1,9 @@
 -- Parts of the memory: what a slice of the code holds, and how long the tables and their pages are.
 use Rattle.std.proofs.Common.{◌≡◌, ℕ, ◌+◌, ◌-◌, ◌*◌, ◌<◌, ◌≤◌, List, ◌++◌, length, take, drop, replicate, ap, ◌∙◌, append-nil, arith, length-drop}
 use borrow.Rule.Slice.PartMut.{put_mid}
-use Rattle.std.proofs.lemmas.List.{length-take-le, drop-drop, drop_all}
+use Rattle.std.proofs.lemmas.List.{length-take-le, drop_all}
 use Rattle.sums.specs.Cells.{places, pages, slots}
-use Rattle.gauge.specs.Memory.{sums_at, counts_at, cells, sums_in, counts_in, page_sums_in, page_counts_in}
+use Rattle.gauge.specs.Memory.{sums_at, counts_at, cells, sums_in, page_sums_in, page_counts_in}
 
 -- `&memory[at..at + n]`
 part_is : (m : List ℕ) (at n : ℕ) → take (at + n - at) (drop at m) ≡ take n (drop at m)
@@ -26,10 +26,6 @@ module _ (m : List ℕ) (len : length m ≡ cells) where
   unfolding sums_in
   length_sums_in = length_part m sums_at places (omega arith)
 
-  pub length_counts_in : length (counts_in m) ≡ places
-  unfolding counts_in
-  length_counts_in = length_part m counts_at places (omega arith)
-
   pub length_page_sums : (p : ℕ) → p < pages → length (page_sums_in m p) ≡ slots
   unfolding page_sums_in
   length_page_sums p lt = length_part m (sums_at + slots * p) slots (omega arith)
@@ -42,8 +38,6 @@ module _ (m : List ℕ) (len : length m ≡ cells) where
   pub tables_filled : (ys : List ℕ) (x : ℕ) → ys ≡ replicate (length (take (2 * places) (drop sums_at m))) x →
       put_mid sums_at (2 * places) m ys ≡ take sums_at m ++ replicate (length m - sums_at) x
   tables_filled ys x e =
-      let n : length (take (2 * places) (drop sums_at m)) ≡ length m - sums_at = length_part m sums_at (2 * places) (omega arith) ∙ omega arith in
-      let f : ys ≡ replicate (length m - sums_at) x = e ∙ ap (λ k. replicate k x) n in
-      ap (put_mid sums_at (2 * places) m) f
-      ∙ ap (λ l. take sums_at m ++ (replicate (length m - sums_at) x ++ l)) (drop-drop (2 * places) sums_at m ∙ drop_all cells m (omega arith))
-      ∙ ap (λ l. take sums_at m ++ l) (append-nil (replicate (length m - sums_at) x))
+      let long : length (take (2 * places) (drop sums_at m)) ≡ length m - sums_at = length_part m sums_at (2 * places) (omega arith) ∙ omega arith in
+      let none = drop_all (2 * places) (drop sums_at m) (simp length-drop (omega arith)) in
+      simp (e, long, none, append-nil)

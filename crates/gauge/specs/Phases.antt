@@ -1,7 +1,8 @@
 -- The phases of the code by their numbers. Assumes nothing: these are definitions.
-use Rattle.std.specs.Prelude.{◌≡◌, ℕ, ◌<◌, Some, None, Option}
+use Rattle.std.specs.Prelude.{◌≡◌, ℕ, ◌<◌, Result, MatchResult}
 use Rattle.gauge.specs.Memory.{asleep, asks_root, asks_page, asks_cursor, placed, released, reading, saved, rooted, told, noted, closed, done}
 use Rattle.gauge.specs.declared.memory.Phase.{Phase}
+use Rattle.gauge.specs.declared.memory.UnknownPhase.{UnknownPhase}
 use Rattle.gauge.specs.declared.memory.Phase.TheVariants.{Asleep, AsksRoot, AsksPage, AsksCursor, Placed, Released, Reading, Saved, Rooted, Told, Noted, Closed, Done}
 
 abbrev pub phase_number : Phase → ℕ
@@ -20,6 +21,5 @@ phase_number Closed = closed
 phase_number Done = done
 
 -- the phase of a number; none past the last
-abbrev pub PhaseSays : (number : ℕ) → Option Phase → Type 0
-PhaseSays n (Some p) = n ≡ phase_number p
-PhaseSays n None = done < n
+abbrev pub PhaseSays : (number : ℕ) → Result Phase UnknownPhase → Type 0
+PhaseSays n r = MatchResult r (λ p. n ≡ phase_number p) (λ e. (e.0 ≡ n) × (done < n))

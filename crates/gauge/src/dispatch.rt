@@ -1,22 +1,18 @@
 // What comes after what the machine did last.
-ghost use Rattle.std.specs.Prelude.{◌≡◌, ◌≤◌, length};
-ghost use Rattle.gauge.specs.Memory.{cells};
 ghost use Rattle.gauge.specs.Deeds.{Did};
 ghost use Rattle.gauge.specs.Gauge.{went_on};
 
 use crate::act::Act;
 use crate::checkpoint::{end_hour, save_next};
-use crate::memory::{PHASE, Phase};
+use crate::memory::{Buffer, Memory, PHASE, Phase};
 use crate::row::{ask, place, release};
 use crate::tell::{note_cursor, tell_next};
 
-// Told to go on, where nothing came. A phase that waits for something else rests.
-pub fn go_on(memory: &mut [u64], out: &mut [u8]) -> Act
-    requires memory_len { length memory.old ≡ cells }
-    requires in_bounds { 4096 ≤ length out.old }
+// Told to go on, where nothing came. A phase that waits for something else rests. The lent memory keeps the phase as a number, and so no closure.
+pub fn go_on(memory: &mut Memory, out: &mut Buffer) -> Act
     ensures { Did (went_on memory.old) result memory.new out.old out.new }
 {
-    let Some(phase) = Phase::from_number(memory[PHASE]) else {
+    let Ok(phase) = Phase::try_from(memory[PHASE]) else {
         return Act::Rests;
     };
     match phase {

@@ -1,30 +1,27 @@
 // Records and pages that are kept: their bytes over the front of the buffer, which has room for each of them, and the act.
-ghost use Rattle.std.specs.Prelude.{◌≡◌, ◌<◌, ◌≤◌, length};
+ghost use Rattle.std.specs.Prelude.{◌<◌};
 ghost use Rattle.sums.specs.Cells.{pages};
 ghost use Rattle.sums.specs.Pages.{page_bytes};
 ghost use Rattle.store.specs.Drawers.{root_drawer, cursor_drawer};
 ghost use Rattle.store.specs.Records.{root_bytes, cursor_bytes};
 ghost use Rattle.gauge.specs.Deeds.{keep};
 ghost use Rattle.gauge.specs.Kept.{Kept};
-ghost use Rattle.gauge.specs.Memory.{cells, page_sums_in, page_counts_in};
+ghost use Rattle.gauge.specs.Memory.{page_sums_in, page_counts_in};
 
 use crate::act::Act;
-use crate::memory::{COUNTS, SUMS};
+use crate::memory::{Buffer, COUNTS, Memory, PAGE, SUMS};
 use store::drawers::{cursor_drawer, root_drawer};
 use store::{Cursor, Root};
-use sums::cells::SLOTS;
 use sums::pages::{PAGE_BYTES, encode_page};
 
-pub(crate) fn keep_root(root: Root, out: &mut [u8]) -> Act
-    requires { 4096 ≤ length out.old }
+pub(crate) fn keep_root(root: Root, out: &mut Buffer) -> Act
     ensures { Kept (keep root_drawer (root_bytes root)) result out.old out.new }
 {
     root.encode(out).unwrap();
     Act::Keep(root_drawer(), Root::BYTES as u16)
 }
 
-pub(crate) fn keep_cursor(cursor: Cursor, out: &mut [u8]) -> Act
-    requires { 4096 ≤ length out.old }
+pub(crate) fn keep_cursor(cursor: Cursor, out: &mut Buffer) -> Act
     ensures { Kept (keep cursor_drawer (cursor_bytes cursor)) result out.old out.new }
 {
     cursor.encode(out).unwrap();
@@ -32,20 +29,13 @@ pub(crate) fn keep_cursor(cursor: Cursor, out: &mut [u8]) -> Act
 }
 
 // A page of the tables in memory, into this drawer.
-pub(crate) fn keep_page(memory: &[u64], page: u64, drawer: u8, out: &mut [u8]) -> Act
-    requires memory_len { length memory.now ≡ cells }
-    requires page_lt_pages { page < pages }
-    requires in_bounds { 4096 ≤ length out.old }
+pub(crate) fn keep_page(memory: &Memory, page: u64, drawer: u8, out: &mut Buffer) -> Act
+    requires { page < pages }
     ensures { Kept (keep drawer (page_bytes (page_sums_in memory.now page) (page_counts_in memory.now page))) result out.old out.new }
 {
-    let slots = SLOTS as usize;
-    let sums = SUMS + slots * page as usize;
-    let counts = COUNTS + slots * page as usize;
-    encode_page(
-        &memory[sums..sums + slots],
-        &memory[counts..counts + slots],
-        out,
-    )
-    .unwrap();
+    let at = PAGE * page as usize;
+    let sums = &memory[SUMS + at..SUMS + at + PAGE];
+    let counts = &memory[COUNTS + at..COUNTS + at + PAGE];
+    encode_page(sums, counts, out).unwrap();
     Act::Keep(drawer, PAGE_BYTES as u16)
 }

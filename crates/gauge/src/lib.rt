@@ -13,6 +13,6 @@ mod tell;
 pub use act::Act;
 pub use checkpoint::fill;
 pub use dispatch::go_on;
-pub use memory::Phase;
+pub use memory::{Buffer, Memory, Phase};
 pub use readings::{accumulate, end};
 pub use row::place;

@@ -1,7 +1,11 @@
-// The memory of a machine: eight named cells, then the tables of the hour at hand.
+// The memory of a machine: eight named cells, then the tables of the hour at hand. It is a row of numbers that the caller lends, so it is no struct.
 ghost use Rattle.std.specs.Prelude.{◌≡◌};
+ghost use Rattle.gauge.specs.Gauge.{set_named};
+ghost use Rattle.gauge.specs.Memory.{set_in};
 ghost use Rattle.gauge.specs.Phases.{phase_number, PhaseSays};
 
+use store::PageSet;
+use sums::cells::SLOTS;
 use sums::reading::PLACES;
 
 // What the machine did last, by the number of the phase.
@@ -26,6 +30,21 @@ pub const SUMS: usize = 8;
 pub const COUNTS: usize = SUMS + PLACES as usize;
 
 pub const CELLS: usize = COUNTS + PLACES as usize;
+// How many sums, and how many counts, a page has.
+pub const PAGE: usize = SLOTS as usize;
+
+pub type Memory = [u64; CELLS];
+// How many bytes a drawer or a letter has at most.
+pub const LETTER: usize = 4096;
+// What is kept, or sent, stands at its front.
+pub type Buffer = [u8; LETTER];
+
+// The page set that the root record names; none where the number is that of no set.
+pub fn named_set(memory: &Memory) -> PageSet
+    ensures { result ≡ set_named (set_in memory.now) }
+{
+    PageSet::from_number(memory[SET]).unwrap_or(PageSet::None)
+}
 
 // What the machine did last, and so what it is told next.
 #[derive(Clone, Copy, PartialEq, Eq, Debug)]
@@ -50,32 +69,39 @@ pub enum Phase {
     Done,
 }
 
-impl Phase {
-    pub fn number(self) -> u64
-        ensures { result ≡ phase_number self }
-    {
-        self as u64
-    }
+// No phase has this number.
+#[derive(Clone, Copy, PartialEq, Eq, Debug)]
+pub struct UnknownPhase(pub u64);
 
-    // The phase of a number, if it is that of one.
-    pub fn from_number(number: u64) -> Option<Phase>
-        ensures { PhaseSays number result }
-    {
+impl From<Phase> for u64 {
+    ghost from_gives = { λ phase n. n ≡ phase_number phase };
+
+    fn from(phase: Phase) -> u64 {
+        phase as u64
+    }
+}
+
+impl TryFrom<u64> for Phase {
+    type Error = UnknownPhase;
+
+    ghost try_from_gives = { PhaseSays };
+
+    fn try_from(number: u64) -> Result<Phase, UnknownPhase> {
         match number {
-            0 => Some(Phase::Asleep),
-            1 => Some(Phase::AsksRoot),
-            2 => Some(Phase::AsksPage),
-            3 => Some(Phase::AsksCursor),
-            4 => Some(Phase::Placed),
-            5 => Some(Phase::Released),
-            6 => Some(Phase::Reading),
-            7 => Some(Phase::Saved),
-            8 => Some(Phase::Rooted),
-            9 => Some(Phase::Told),
-            10 => Some(Phase::Noted),
-            11 => Some(Phase::Closed),
-            12 => Some(Phase::Done),
-            _ => None,
+            0 => Ok(Phase::Asleep),
+            1 => Ok(Phase::AsksRoot),
+            2 => Ok(Phase::AsksPage),
+            3 => Ok(Phase::AsksCursor),
+            4 => Ok(Phase::Placed),
+            5 => Ok(Phase::Released),
+            6 => Ok(Phase::Reading),
+            7 => Ok(Phase::Saved),
+            8 => Ok(Phase::Rooted),
+            9 => Ok(Phase::Told),
+            10 => Ok(Phase::Noted),
+            11 => Ok(Phase::Closed),
+            12 => Ok(Phase::Done),
+            _ => Err(UnknownPhase(number)),
         }
     }
 }

@@ -1,16 +1,15 @@
 -- A step keeps the memory's length, and its numbers below 2^64.
-use Rattle.std.proofs.Common.{◌≡◌, ℕ, zero, suc, ◌+◌, ◌-◌, ◌*◌, ◌/◌, ◌^◌, ◌<◌, ◌≤◌, Bool, true, false, cond, ◌&&◌, eqb, ltb, leb, List, [], ◌∷◌, ◌++◌, length, get_or, take, drop, set, replicate, Some, None, Ok, Err, Option, Result, refl, ◌∙◌, arith, lit<, length-append, length-take}
+use Rattle.std.proofs.Common.{◌≡◌, ℕ, zero, suc, ◌+◌, ◌-◌, ◌*◌, ◌/◌, ◌^◌, ◌<◌, ◌≤◌, Bool, true, false, cond, ◌&&◌, eqb, ltb, List, [], ◌∷◌, ◌++◌, length, get_or, take, drop, set, replicate, Some, None, Ok, Err, Option, Result, refl, ◌∙◌, arith, lit<, length-append, length-take}
 use Rattle.std.proofs.lemmas.List.{length-set, length-replicate}
 use Rattle.std.proofs.lemmas.Bool.{and_from, and_parts, lt-ltb, ltb-true, eqb-true, cond_both}
-use Rattle.sums.specs.Cells.{places, pages, slots, cell_of}
+use Rattle.sums.specs.Cells.{places, pages, slots}
 use Rattle.sums.specs.Digits.{fits}
 use Rattle.sums.specs.Pages.{page_sums, page_counts, page_length, sum_width, count_width}
 use Rattle.sums.specs.Sums.{every, or}
-use Rattle.sums.specs.Tables.{entry_at, entry_with}
+use Rattle.sums.specs.Tables.{entry_with}
 use Rattle.sums.specs.Written.{written}
 use Rattle.sums.specs.declared.tables.Entry.{Entry}
 use Rattle.sums.specs.declared.tables.TableError.{TableError}
-use Rattle.sums.specs.declared.tables.TableError.TheVariants.{TableLength}
 use Rattle.sums.proofs.Columns.{length_sums, length_counts}
 use Rattle.sums.proofs.Everys.{every_append, every_set, every_weaker}
 use Rattle.sums.proofs.Overwrites.{length_written}
@@ -21,6 +20,7 @@ use Rattle.store.specs.declared.records.PageSet.TheVariants.{First, Second}
 use Rattle.store.specs.declared.records.PageSet.TheVariants as page_set
 use Rattle.store.specs.declared.records.Root.{Root}
 use Rattle.gauge.specs.Memory.{cells, sums_at, counts_at, phase_in, index_in, begun_in, hour_in, pos_in, set_in, sums_in, counts_in, placed, released, reading, saved, rooted, told, noted, closed, asks_root, asks_page, asks_cursor}
+use Rattle.gauge.proofs.Entries.{entry_either}
 use Rattle.gauge.specs.Deeds.{Done}
 use Rattle.gauge.specs.Gauge.{next_cell, cell_told, hour_closed, tell_next, cleared, accumulated, heard, ended, page_saved_in, page_saved, shadow_in, set_named, root_saved, filled, save_next, went_on}
 use Rattle.machine.specs.Boot.{woken, root_read, page_asked_in, root_recalled, page_read, page_fits, page_recalled, cursor_recalled, recalled}
@@ -61,18 +61,9 @@ SmallEntry : Result Entry TableError → Type 0
 SmallEntry (Ok e) = (e.sum < limit) × (e.count < limit)
 SmallEntry (Err x) = Unit {0}
 
-small_entry_at : (ss cs : List ℕ) (c v : ℕ) → SmallEntry (entry_at ss cs c v)
-unfolding SmallEntry
-small_entry_at ss cs c v =
-    cond_both (ltb (get_or ss c 0 + v) limit) _ _ SmallEntry
-    (λ e. cond_both (ltb (get_or cs c 0 + 1) 4294967296) _ _ SmallEntry
-    (λ f. let l : get_or cs c 0 + 1 < 4294967296 = ltb-true _ _ f in (ltb-true _ _ e, omega arith)) (λ f. tt))
-    (λ e. tt)
-
 small_entry : (ss cs : List ℕ) (k v : ℕ) → SmallEntry (entry_with ss cs k v)
 unfolding SmallEntry
-small_entry ss cs k v =
-    cond_both (ltb k places) _ _ SmallEntry (λ e. cond_both (leb places (length ss) && leb places (length cs)) (entry_at ss cs (cell_of k) v) (Err TableLength) SmallEntry (λ f. small_entry_at ss cs (cell_of k) v) (λ f. tt)) (λ e. tt)
+small_entry ss cs k v = entry_either ss cs k v SmallEntry (λ _ sum count. (sum, omega arith)) (λ _. tt)
 
 set_small : (s : PageSet) → set_number s < limit
 set_small page_set.None = lit< tt

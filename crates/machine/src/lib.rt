@@ -1,20 +1,22 @@
 // One machine: what it is told, what it does then, and one step from the one to the other.
 #![tactic(auto)]
 
-ghost use Rattle.std.specs.Prelude.{◌≡◌, ◌≤◌, length};
+ghost use Rattle.std.specs.Prelude.{◌≡◌, ◌<◌, ◌≤◌, length, MatchResult};
 ghost use Rattle.gauge.specs.Deeds.{Did};
-ghost use Rattle.gauge.specs.Memory.{cells};
-ghost use Rattle.machine.specs.Answers.{EventSays, as_event, told_of, row_after};
-ghost use Rattle.machine.specs.Entry.{StepSays, step_fits};
+ghost use Rattle.machine.specs.Answers.{as_event};
+ghost use Rattle.machine.specs.Entry.{bytes_of, StepSays, step_fits};
 ghost use Rattle.machine.specs.Machine.{reacts};
 
 use boot::{recall, wake};
 use gauge::memory::{CELLS, PHASE};
-use gauge::{Phase, accumulate, end, fill, go_on};
+use gauge::{Buffer, Memory, Phase, accumulate, end, fill, go_on};
+use std::error::Error;
+use std::fmt;
 
 mod boot;
 
 pub use gauge::Act;
+pub use gauge::memory::LETTER;
 
 #[derive(Clone, Copy)]
 pub enum Event<'a> {
@@ -33,20 +35,13 @@ pub enum Event<'a> {
     Next,
 }
 
-// An act as it is told to the caller: what does not fit in one number stands in the lent row and buffer.
-#[derive(Clone, Copy)]
-pub enum Told {
-    More,
-    From(u64),
-    LetGo(u64),
-    // 65,536 times the machine, or the drawer, and so many bytes.
-    Sends(u64),
-    Keep(u64),
-    Recall(u64),
-    // The place; hour, place and sum stand in the row.
-    Tells(u64),
-    Rests,
-    No(u64),
+// Why a step was refused.
+#[derive(Clone, Copy, PartialEq, Eq, Debug)]
+pub enum StepError {
+    MemoryLength,
+    TooManyBytes,
+    // There is no room for what is sent or kept.
+    BufferTooShort,
 }
 
 // How many numbers the memory has.
@@ -57,61 +52,46 @@ pub const MACHINES: u64 = 8;
 pub const DRAWERS: u64 = 256;
 // How many readings that are not released a roll has at most.
 pub const ROLL: u64 = 4096;
-// How many bytes a drawer or a letter has at most.
-pub const LETTER: usize = 4096;
-// A length is below this: a drawer or a machine and a length are told as one number by it.
-pub const LENGTHS: u64 = 65536;
-// How many numbers an answer has at most.
-pub const ROW: usize = 3;
 
-impl Event<'_> {
-    // The event of a number and its values, or none where there is no such number.
-    fn read(kind: u64, a: u64, b: u64, c: u64, bytes: &[u8]) -> Option<Event<'_>>
-        ensures { EventSays kind a b c bytes.now result }
+impl fmt::Display for StepError {
+    fn fmt<W: fmt::Write>(&self, f: &mut fmt::Formatter<W>) -> fmt::Result {
+        f.write_str(match self {
+            StepError::MemoryLength => "the memory is not as long as a machine's",
+            StepError::TooManyBytes => "a letter or a drawer has more than 4,096 bytes",
+            StepError::BufferTooShort => "the buffer has fewer than 4,096 bytes",
+        })
+    }
+}
+
+impl Error for StepError {}
+
+impl<'a> Event<'a> {
+    // What a letter or a drawer has.
+    fn bytes(self) -> &'a [u8]
+        ensures { result.now ≡ bytes_of (as_event self.entry) }
     {
-        match kind {
-            0 => Some(Event::Wakes(a)),
-            1 => Some(Event::Comes(a, b, c)),
-            2 => Some(Event::Later),
-            3 => Some(Event::Ends),
-            4 => Some(Event::Letter(a, bytes)),
-            5 => Some(Event::Slot(bytes)),
-            6 => Some(Event::Next),
-            _ => None,
+        match self {
+            Event::Letter(_, bytes) | Event::Slot(bytes) => bytes,
+            _ => &[],
         }
     }
 }
 
-// Writes an act for the caller: hour, place and sum into the row, drawer and length into one number.
-fn tell(act: Act, row: &mut [u64]) -> Told
-    requires { 3 ≤ length row.old }
-    ensures told { result ≡ told_of act }
-    ensures row { row.new ≡ row_after act row.old }
+fn check_length(bytes: &[u8]) -> Result<(), StepError>
+    ensures { MatchResult result (λ _. length bytes.now ≤ 4096) (λ e. (e ≡ StepError.TooManyBytes) × (4096 < length bytes.now)) }
 {
-    match act {
-        Act::More => Told::More,
-        Act::From(p) => Told::From(p),
-        Act::LetGo(p) => Told::LetGo(p),
-        Act::Sends(to, len) => Told::Sends(LENGTHS * u64::from(to) + u64::from(len)),
-        Act::Keep(drawer, len) => Told::Keep(LENGTHS * u64::from(drawer) + u64::from(len)),
-        Act::Recall(drawer) => Told::Recall(drawer),
-        Act::Tells(hour, place, sum) => {
-            row[0] = hour;
-            row[1] = place;
-            row[2] = sum;
-            Told::Tells(place)
-        }
-        Act::Rests => Told::Rests,
+    if bytes.len() > LETTER {
+        return Err(StepError::TooManyBytes);
     }
+    Ok(())
 }
 
 // What the machine does when it is told of an event. One that cannot come in its phase changes nothing.
-fn react(memory: &mut [u64], event: Event<'_>, out: &mut [u8]) -> Act
-    requires memory_len { length memory.old ≡ cells }
-    requires in_bounds { 4096 ≤ length out.old }
-    ensures { Did (reacts memory.old (as_event event.entry)) result memory.new out.old out.new }
+fn react(memory: &mut Memory, event: Event<'_>, out: &mut Buffer) -> Act
+    ensures did { Did (reacts memory.old (as_event event.entry)) result memory.new out.old out.new }
+    ensures long { length out.new ≡ 4096 }
 {
-    let reading = memory[PHASE] == Phase::Reading.number();
+    let reading = Phase::try_from(memory[PHASE]) == Ok(Phase::Reading);
     match event {
         Event::Wakes(_) => wake(memory),
         Event::Comes(time, place, value) if reading => accumulate(memory, time, place, value, out),
@@ -123,24 +103,16 @@ fn react(memory: &mut [u64], event: Event<'_>, out: &mut [u8]) -> Act
     }
 }
 
-// One step: the event of number `kind` with its values, and what the machine does then.
-pub fn step(
-    memory: &mut [u64],
-    kind: u64,
-    a: u64,
-    b: u64,
-    c: u64,
-    bytes: &[u8],
-    row: &mut [u64],
-    out: &mut [u8],
-) -> Told
-    ensures { StepSays memory.old kind a b c bytes.now row.old out.old (step_fits memory.old kind bytes.now row.old out.old) result memory.new row.new out.new }
+// One step: what the machine does when it is told of the event. What it sends or keeps stands at the front of the buffer.
+pub fn step(memory: &mut [u64], event: Event<'_>, out: &mut [u8]) -> Result<Act, StepError>
+    ensures { StepSays memory.old (as_event event.entry) out.old (step_fits memory.old (bytes_of (as_event event.entry)) out.old) result memory.new out.new }
 {
-    if memory.len() != MEMORY || bytes.len() > LETTER || row.len() < ROW || out.len() < LETTER {
-        return Told::No(0);
-    }
-    let Some(event) = Event::read(kind, a, b, c, bytes) else {
-        return Told::No(0);
+    let Some(memory) = memory.as_mut_array::<MEMORY>() else {
+        return Err(StepError::MemoryLength);
     };
-    tell(react(memory, event, out), row)
+    check_length(event.bytes())?;
+    let Some(out) = out.first_chunk_mut::<LETTER>() else {
+        return Err(StepError::BufferTooShort);
+    };
+    Ok(react(memory, event, out))
 }

@@ -1,48 +1,73 @@
-use Rattle.std.proofs.Common.{◌≡◌, ℕ, ◌+◌, ◌-◌, ◌*◌, true, eqb, List, length, replicate, is_ok, Ok, sym, ap, ◌∙◌, arith}
-use borrow.Rule.Slice.PartMut.{put_mid}
-use Rattle.std.proofs.lemmas.Bool.{eq-eqb, and_from, cond-true}
-use Rattle.sums.specs.Cells.{slots}
-use Rattle.sums.specs.Pages.{page_length, page_sums, page_counts, decode_answer, sums_read, counts_read}
+use Rattle.std.proofs.Common.{◌≡◌, ℕ, ◌+◌, ◌*◌, ◌<◌, ◌≤◌, true, false, eqb, List, ◌++◌, length, take, drop, is_ok, Ok, Err, Result, OnOk, if◌then◌else◌, cond, length-drop, refl, sym, ap, ◌∙◌, ⊎_elim, append_assoc, arith}
+use borrow.Rule.Slice.PartMut.{mid_of, put_mid, put_same}
+use Rattle.std.proofs.Math.Seq.{take-append-add, drop-append-add}
+use Rattle.std.proofs.lemmas.Bool.{eq-eqb, and_from, cases_Bool}
+use Rattle.std.proofs.lemmas.List.{take-append-le, drop-append-le, length-take-le}
+use Rattle.sums.specs.Cells.{places, pages, slots}
+use Rattle.sums.specs.Pages.{page_length, page_sums, page_counts, decode_answer, sums_read, counts_read, numbers_fit, rows_fit}
 use Rattle.sums.specs.Written.{written}
+use Rattle.sums.specs.declared.pages.PageError.{PageError}
+use Rattle.sums.specs.declared.pages.PageError.TheVariants.{ByteLength}
 use Rattle.sums.proofs.Columns.{decoded_length, length_sums, length_counts}
-use Rattle.sums.proofs.Overwrites.{put_mid_written}
+use Rattle.sums.proofs.Overwrites.{put_mid_written, length_written}
 use Rattle.gauge.specs.Memory.{sums_at, counts_at}
-use Rattle.machine.specs.Boot.{page_fits}
+use Rattle.machine.specs.Boot.{page_fits, page_read}
 use Rattle.machine.proofs.boot.read_page.Goals as goal
 
--- a row of a page, written over a part
-row_put : (m : List ℕ) (at : ℕ) (ys row : List ℕ) → ys ≡ row → length row ≡ slots → put_mid at (at + slots - at) m ys ≡ written m at row
-row_put m at ys row e len =
-    let k : at + slots - at ≡ slots = omega arith in
-    ap (put_mid at (at + slots - at) m) e ∙ put_mid_written m at (at + slots - at) row (len ∙ sym k)
+-- a write to one of two lists side by side
+written_left : (xs ys : List ℕ) (at : ℕ) (r : List ℕ) → at + length r ≤ length xs → written (xs ++ ys) at r ≡ written xs at r ++ ys
+written_left xs ys at r le =
+    let before = take-append-le at xs ys (omega arith) in
+    let behind = drop-append-le (at + length r) xs ys le in
+    let one = append_assoc r (drop (at + length r) xs) ys in
+    let all = append_assoc (take at xs) (r ++ drop (at + length r) xs) ys in
+    cc
 
--- a page was read: the bytes are one, and its rows are what they write
-module _ (bs ss cs : List ℕ) (told : Ok tt ≡ decode_answer bs ss cs) where
-  was_read : is_ok (decode_answer bs ss cs) ≡ true
-  was_read = ap is_ok (sym told)
+written_right : (xs ys : List ℕ) (n at : ℕ) (r : List ℕ) → n ≡ length xs + at → written (xs ++ ys) n r ≡ xs ++ written ys at r
+written_right xs ys n at r e =
+    let before = take-append-add xs ys at in
+    let behind = drop-append-add xs ys (at + length r) in
+    let place : n + length r ≡ length xs + (at + length r) = omega arith in
+    let all = append_assoc xs (take at ys) (r ++ drop (at + length r) ys) in
+    cc
 
-  whole : eqb (length bs) page_length ≡ true
-  whole = eq-eqb (length bs) page_length (decoded_length bs ss cs was_read)
+-- The memory m split into f and b, and joined again once a page is read into the parts ss and cs of them, which are ss' and cs' then, or is refused.
+module _ (m f b bs ss cs ss' cs' : List ℕ) (p k l : ℕ) (lt : p < pages) (em : m ≡ f ++ b) (ef : length f ≡ counts_at) (eb : length b ≡ places)
+    (ek : k ≡ slots) (el : l ≡ slots) (es : ss ≡ mid_of (sums_at + slots * p) k f) (ec : cs ≡ mid_of (slots * p) l b)
+    (es' : ss' ≡ sums_read bs ss cs) (ec' : cs' ≡ counts_read bs ss cs) where
+  rows : rows_fit ss cs ≡ true
+  rows =
+      let s : length ss ≡ slots = ap length es ∙ length-take-le k (drop (sums_at + slots * p) f) (simp length-drop (omega arith)) ∙ ek in
+      let c : length cs ≡ slots = ap length ec ∙ length-take-le l (drop (slots * p) b) (simp length-drop (omega arith)) ∙ el in
+      and_from _ _ (eq-eqb (length ss) slots s) (eq-eqb (length cs) slots c)
 
-  sums_are : {xs ys : List ℕ} → xs ≡ ys → ys ≡ sums_read bs ss cs → xs ≡ page_sums bs
-  sums_are copied e = copied ∙ e ∙ cond-true (is_ok (decode_answer bs ss cs)) (page_sums bs) ss was_read
+  joined : (r : Result (Unit {0}) PageError) → r ≡ decode_answer bs ss cs → OnOk r (numbers_fit bs ≡ true) →
+      put_mid (sums_at + slots * p) k f ss' ++ put_mid (slots * p) l b cs' ≡ if page_fits bs then page_read m p bs else m
+  joined (Ok u) told small =
+      let done : is_ok (decode_answer bs ss cs) ≡ true = ap is_ok (sym told) in
+      let whole = eq-eqb (length bs) page_length (decoded_length bs ss cs done) in
+      let fits : page_fits bs ≡ true = and_from _ _ whole small in
+      let sums : ss' ≡ page_sums bs = es' ∙ simp done in
+      let counts : cs' ≡ page_counts bs = ec' ∙ simp done in
+      let s = put_mid_written f (sums_at + slots * p) k (page_sums bs) (length_sums bs ∙ sym ek) in
+      let t = put_mid_written b (slots * p) l (page_counts bs) (length_counts bs ∙ sym el) in
+      let long = length_written f (sums_at + slots * p) (page_sums bs) (omega (arith, length_sums bs)) in
+      let left = written_left f b (sums_at + slots * p) (page_sums bs) (omega (arith, length_sums bs)) in
+      let right = written_right (written f (sums_at + slots * p) (page_sums bs)) b (counts_at + slots * p) (slots * p) (page_counts bs) (omega arith) in
+      simp fits cc
+  joined (Err e) told small =
+      let refused : is_ok (decode_answer bs ss cs) ≡ false = ap is_ok (sym told) in
+      let answer : Err e ≡ cond (eqb (length bs) page_length) (Ok tt) (Err ByteLength) = simp rows at told in
+      let short : eqb (length bs) page_length ≡ false = ⊎_elim (λ (t : eqb (length bs) page_length ≡ true). absurd (let no = simp t at answer in cc)) (λ t. t) (cases_Bool (eqb (length bs) page_length)) in
+      let sums : ss' ≡ ss = es' ∙ simp refused in
+      let counts : cs' ≡ cs = ec' ∙ simp refused in
+      let s = put_same (sums_at + slots * p) k f in
+      let t = put_same (slots * p) l b in
+      simp short cc
 
-  counts_are : {xs ys : List ℕ} → xs ≡ ys → ys ≡ counts_read bs ss cs → xs ≡ page_counts bs
-  counts_are copied e = copied ∙ e ∙ cond-true (is_ok (decode_answer bs ss cs)) (page_counts bs) cs was_read
-
-pub returns : goal.returns
-returns c =
-    let m = c.args.memory.now in
-    let bs = c.args.bytes.now in
-    let p = c.args.page in
-    let zeros : List ℕ = replicate slots 0 in
-    let done = c.in_ok-decode_page.ensures in
-    let fit : page_fits bs ≡ true = and_from _ _ (whole bs zeros zeros done.told) done.small in
-    let sums : c.copy_from_slice.new.self ≡ page_sums bs = sums_are bs zeros zeros done.told c.copy_from_slice.ensures.after done.sums in
-    let counts : c.copy_from_slice-2.new.self ≡ page_counts bs = counts_are bs zeros zeros done.told c.copy_from_slice-2.ensures.after done.counts in
-    let first = row_put m (sums_at + slots * p) _ (page_sums bs) sums (length_sums bs) in
-    let second = row_put (written m (sums_at + slots * p) (page_sums bs)) (counts_at + slots * p) _ (page_counts bs) counts (length_counts bs) in
-    record {
-      told = sym fit;
-      read = ap (λ l. put_mid (counts_at + slots * p) (counts_at + slots * p + slots - (counts_at + slots * p)) l c.copy_from_slice-2.new.self) first ∙ second ∙ sym (cond-true (page_fits bs) _ _ fit);
-    }
+pub returns-clause-read : goal.returns-clause-read
+returns-clause-read c =
+    let apart = c.split_at_mut-front.ensures in
+    let page = c.decode_page.ensures in
+    joined c.args.memory.now _ _ c.args.bytes.now _ _ _ _ c.args.page _ _ c.requires apart.value apart.front_len (omega arith) (omega arith) (omega arith) refl refl
+    page.sums page.counts c.decode_page.result page.told page.small
