@@ -7,9 +7,9 @@ ghost use Rattle.gauge.specs.Kept.{committed};
 ghost use Rattle.gauge.specs.Gauge.{shadow_in, page_saved, root_saved, filled, save_next, hour_ended};
 
 use crate::act::Act;
-use crate::keep::{keep_page, keep_root};
+use crate::keep::{keep_page, keep_record};
 use crate::memory::{BEGUN, Buffer, HOUR, INDEX, Memory, PHASE, POS, Phase, SET, SUMS, named_set};
-use store::drawers::page_drawer;
+use store::drawers::{page_drawer, root_drawer};
 use store::{PageSet, Root};
 use sums::cells::PAGES;
 
@@ -64,9 +64,9 @@ fn save_root(memory: &mut Memory, out: &mut Buffer) -> Act
 fn commit(memory: &mut Memory, root: Root, out: &mut Buffer) -> Act
     ensures { Did (committed memory.old root) result memory.new out.old out.new }
 {
-    memory[SET] = root.set.number();
+    memory[SET] = root.set.into();
     memory[PHASE] = Phase::Rooted.into();
-    keep_root(root, out)
+    keep_record(root, root_drawer(), out)
 }
 
 // The set that is written, so that the pages of the one in use stay whole.

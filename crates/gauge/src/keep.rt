@@ -2,30 +2,25 @@
 ghost use Rattle.std.specs.Prelude.{◌<◌};
 ghost use Rattle.sums.specs.Cells.{pages};
 ghost use Rattle.sums.specs.Pages.{page_bytes};
-ghost use Rattle.store.specs.Drawers.{root_drawer, cursor_drawer};
-ghost use Rattle.store.specs.Records.{root_bytes, cursor_bytes};
 ghost use Rattle.gauge.specs.Deeds.{keep};
 ghost use Rattle.gauge.specs.Kept.{Kept};
 ghost use Rattle.gauge.specs.Memory.{page_sums_in, page_counts_in};
 
 use crate::act::Act;
 use crate::memory::{Buffer, COUNTS, Memory, PAGE, SUMS};
-use store::drawers::{cursor_drawer, root_drawer};
-use store::{Cursor, Root};
+use store::Record;
 use sums::pages::{PAGE_BYTES, encode_page};
 
-pub(crate) fn keep_root(root: Root, out: &mut Buffer) -> Act
-    ensures { Kept (keep root_drawer (root_bytes root)) result out.old out.new }
+// A record, into this drawer.
+pub(crate) fn keep_record<const N: usize, R: Record<N>>(
+    entry: R,
+    drawer: u8,
+    out: &mut Buffer,
+) -> Act
+    ensures { Kept (keep drawer (R.bytes_of entry)) result out.old out.new }
 {
-    root.encode(out).unwrap();
-    Act::Keep(root_drawer(), Root::BYTES as u16)
-}
-
-pub(crate) fn keep_cursor(cursor: Cursor, out: &mut Buffer) -> Act
-    ensures { Kept (keep cursor_drawer (cursor_bytes cursor)) result out.old out.new }
-{
-    cursor.encode(out).unwrap();
-    Act::Keep(cursor_drawer(), Cursor::BYTES as u16)
+    entry.encode(out).unwrap();
+    Act::Keep(drawer, R::BYTES as u16)
 }
 
 // A page of the tables in memory, into this drawer.

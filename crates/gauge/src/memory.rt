@@ -43,7 +43,7 @@ pub type Buffer = [u8; LETTER];
 pub fn named_set(memory: &Memory) -> PageSet
     ensures { result ≡ set_named (set_in memory.now) }
 {
-    PageSet::from_number(memory[SET]).unwrap_or(PageSet::None)
+    PageSet::try_from(memory[SET]).unwrap_or(PageSet::None)
 }
 
 // What the machine did last, and so what it is told next.

@@ -6,9 +6,10 @@ ghost use Rattle.gauge.specs.Gauge.{first_to_tell, next_cell, cell_told, hour_cl
 ghost use Rattle.gauge.specs.Scan.{counted_from};
 
 use crate::act::Act;
-use crate::keep::keep_cursor;
+use crate::keep::keep_record;
 use crate::memory::{Buffer, COUNTS, CURSOR_CELL, CURSOR_HOUR, HOUR, Memory, PHASE, Phase, SUMS};
 use store::Cursor;
+use store::drawers::cursor_drawer;
 use sums::cells::place_of;
 use sums::reading::PLACES;
 
@@ -77,7 +78,7 @@ pub(crate) fn note_cursor(memory: &mut Memory, out: &mut Buffer) -> Act
         cell: memory[CURSOR_CELL],
     };
     memory[PHASE] = Phase::Noted.into();
-    keep_cursor(cursor, out)
+    keep_record(cursor, cursor_drawer(), out)
 }
 
 // Nothing is left of the hour: the cursor goes past it.
@@ -90,5 +91,5 @@ fn close_hour(memory: &mut Memory, out: &mut Buffer) -> Act
     memory[CURSOR_HOUR] = hour;
     memory[CURSOR_CELL] = 0;
     memory[PHASE] = Phase::Closed.into();
-    keep_cursor(Cursor { hour, cell: 0 }, out)
+    keep_record(Cursor { hour, cell: 0 }, cursor_drawer(), out)
 }

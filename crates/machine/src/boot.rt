@@ -9,7 +9,7 @@ use gauge::memory::{
 };
 use gauge::{Act, Memory, Phase, place};
 use store::drawers::{cursor_drawer, page_drawer, root_drawer};
-use store::{Cursor, PageSet, Root};
+use store::{Cursor, PageSet, Record, Root};
 use sums::cells::PAGES;
 use sums::pages::{PageError, decode_page};
 
@@ -41,7 +41,7 @@ fn recall_root(memory: &mut Memory, bytes: &[u8]) -> Act
     memory[BEGUN] = u64::from(root.set != PageSet::None);
     memory[HOUR] = root.hour;
     memory[POS] = root.pos;
-    memory[SET] = root.set.number();
+    memory[SET] = root.set.into();
     ask_page(memory, root.set, 0)
 }
 

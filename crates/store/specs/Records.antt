@@ -1,6 +1,7 @@
 -- The root record and the cursor, by value and as bytes. Assumes nothing: these are definitions.
 use Rattle.std.specs.Prelude.{◌≡◌, ℕ, ◌*◌, ◌^◌, ◌<◌, true, cond, List, [], ◌∷◌, ◌++◌, length, drop, Some, None, Ok, Err, Option, Result, ◌==◌, ◌≢◌, nat_le, nat_lt, refl}
 use Rattle.std.specs.Option.{option_map, unwrap_or}
+use Rattle.sums.specs.Digits as sums
 use Rattle.sums.specs.Digits.{row_bytes, row_numbers}
 use Rattle.sums.specs.Sums.{every}
 use Rattle.store.specs.declared.records.Cursor.{Cursor}
@@ -80,6 +81,10 @@ pub root_bytes_are : (r : Root) → root_bytes r ≡ row_bytes number_width (roo
 unfolding root_bytes
 root_bytes_are r = refl
 
+pub root_bytes_long : (r : Root) → length (root_bytes r) ≡ root_length
+unfolding root_bytes row_bytes sums.digits
+root_bytes_long r = refl
+
 pub root_of_is : (bs : List ℕ) → root_of bs ≡ record_of zero_root 3 numbered_root bs
 unfolding root_of
 root_of_is bs = refl
@@ -110,6 +115,10 @@ cursor_of bs = record_of zero_cursor 2 numbered_cursor bs
 pub cursor_bytes_are : (c : Cursor) → cursor_bytes c ≡ row_bytes number_width (cursor_numbers c)
 unfolding cursor_bytes
 cursor_bytes_are c = refl
+
+pub cursor_bytes_long : (c : Cursor) → length (cursor_bytes c) ≡ cursor_length
+unfolding cursor_bytes row_bytes sums.digits
+cursor_bytes_long c = refl
 
 pub cursor_of_is : (bs : List ℕ) → cursor_of bs ≡ record_of zero_cursor 2 numbered_cursor bs
 unfolding cursor_of

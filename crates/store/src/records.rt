@@ -1,9 +1,9 @@
 // The root record and the cursor, by value and as bytes.
-ghost use Rattle.std.specs.Prelude.{◌≡◌, ℕ, ◌*◌, ◌^◌, ◌<◌, List, length, Option, refl};
+ghost use Rattle.std.specs.Prelude.{◌≡◌, ℕ, ◌*◌, ◌≤◌, List, length, Option, refl};
 ghost use Rattle.std.specs.Option.{ok_or};
 ghost use Rattle.std.proofs.Common.{rules};
 ghost use Rattle.sums.specs.Digits.{row_bytes};
-ghost use Rattle.store.specs.Records.{set_number, numbered_set, unknown_set, shadow_of, number_width, record_answer, record_written, record_in, record_of, root_numbers, numbered_root, zero_root, root_length, root_bytes, root_bytes_are, root_of, root_of_is, cursor_numbers, numbered_cursor, zero_cursor, cursor_length, cursor_bytes, cursor_bytes_are, cursor_of, cursor_of_is, RootRoundTrip, CursorRoundTrip};
+ghost use Rattle.store.specs.Records.{set_number, numbered_set, unknown_set, shadow_of, number_width, record_answer, record_written, record_in, record_of, root_numbers, numbered_root, zero_root, root_length, root_bytes, root_bytes_are, root_bytes_long, root_of, root_of_is, cursor_numbers, numbered_cursor, zero_cursor, cursor_length, cursor_bytes, cursor_bytes_are, cursor_bytes_long, cursor_of, cursor_of_is, RootRoundTrip, CursorRoundTrip};
 
 use sums::numbers::{read_row, write_row};
 
@@ -94,9 +94,12 @@ pub trait Record<const N: usize>: Copy {
     fn from_numbers(numbers: &[u64; N]) -> Option<Self>
         ensures { result ≡ numbered numbers.now };
 
-    ghost BYTES_are: { (BYTES ≡ number_width * N) × (BYTES < 2 ^ 63) };
+    // It has room in a drawer.
+    ghost BYTES_are: { (BYTES ≡ number_width * N) × (BYTES ≤ 4096) };
 
     ghost bytes_are: { (r : Self) → bytes_of r ≡ row_bytes number_width (numbers_of r) };
+
+    ghost bytes_long: { (r : Self) → length (bytes_of r) ≡ BYTES };
 
     ghost of_bytes_is: { (bs : List ℕ) → of_bytes bs ≡ record_of ZERO N numbered bs };
 
@@ -152,6 +155,8 @@ impl Record<3> for Root {
 
     ghost bytes_are = { root_bytes_are };
 
+    ghost bytes_long = { root_bytes_long };
+
     ghost of_bytes_is = { root_of_is };
 
     const ZERO: Root = Root {
@@ -196,6 +201,8 @@ impl Record<2> for Cursor {
     ghost BYTES_are = { (refl, Prim.search rules) };
 
     ghost bytes_are = { cursor_bytes_are };
+
+    ghost bytes_long = { cursor_bytes_long };
 
     ghost of_bytes_is = { cursor_of_is };
 
