@@ -10,8 +10,7 @@ ghost use Rattle.machine.specs.Machine.{reacts};
 use boot::{recall, wake};
 use gauge::memory::{CELLS, PHASE};
 use gauge::{Buffer, Memory, Phase, accumulate, end, fill, go_on};
-use std::error::Error;
-use std::fmt;
+use thiserror::Error;
 
 mod boot;
 
@@ -36,11 +35,13 @@ pub enum Event<'a> {
 }
 
 // Why a step was refused.
-#[derive(Clone, Copy, PartialEq, Eq, Debug)]
+#[derive(Clone, Copy, PartialEq, Eq, Debug, Error)]
 pub enum StepError {
+    #[error("the memory is not as long as a machine's")]
     MemoryLength,
+    #[error("a letter or a drawer has more than 4,096 bytes")]
     TooManyBytes,
-    // There is no room for what is sent or kept.
+    #[error("the buffer has fewer than 4,096 bytes")]
     BufferTooShort,
 }
 
@@ -52,18 +53,6 @@ pub const MACHINES: u64 = 8;
 pub const DRAWERS: u64 = 256;
 // How many readings that are not released a roll has at most.
 pub const ROLL: u64 = 4096;
-
-impl fmt::Display for StepError {
-    fn fmt<W: fmt::Write>(&self, f: &mut fmt::Formatter<W>) -> fmt::Result {
-        f.write_str(match self {
-            StepError::MemoryLength => "the memory is not as long as a machine's",
-            StepError::TooManyBytes => "a letter or a drawer has more than 4,096 bytes",
-            StepError::BufferTooShort => "the buffer has fewer than 4,096 bytes",
-        })
-    }
-}
-
-impl Error for StepError {}
 
 impl<'a> Event<'a> {
     // What a letter or a drawer has.
