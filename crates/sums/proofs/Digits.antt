@@ -30,7 +30,7 @@ value_digits (suc w) n =
     ap (λ m. n % 256 + 256 * m) (value_digits w (n / 256)) ∙ omega (arith, split) ∙ ap (λ m. n % m) (sym (pow-suc 256 w))
 
 pub value_back : (w n : ℕ) → fits w n ≡ true → value (digits w n) ≡ n
-value_back w n small = value_digits w n ∙ mod-eq_of_lt (ltb-true n (256 ^ w) small)
+value_back w n small = grind (arith, value_digits, mod-eq_of_lt, ltb-true)
 
 -- zeros behind bytes do not count
 pub value_zeros : (bs : List ℕ) (k : ℕ) → value (bs ++ replicate k 0) ≡ value bs
@@ -113,8 +113,14 @@ numbers_back w (n ∷ ns) rest all =
     let small : fits w n ≡ true = (and_parts _ _ all).0 in
     let more : every (fits w) ns ≡ true = (and_parts (fits w n) _ all).1 in
     let behind = row_bytes w ns ++ rest in
-    grind (arith, append_assoc (digits w n) (row_bytes w ns) rest, take_at (digits w n) behind w (length_digits w n), drop_at (digits w n) behind w (length_digits w n),
-      value_back w n small, numbers_back w ns rest more)
+    grind (
+      arith,
+      append_assoc (digits w n) (row_bytes w ns) rest,
+      take_at (digits w n) behind w (length_digits w n),
+      drop_at (digits w n) behind w (length_digits w n),
+      value_back w n small,
+      numbers_back w ns rest more,
+    )
 
 pub digits_bytes : (w n : ℕ) → every (λ b. ltb b 256) (digits w n) ≡ true
 unfolding digits every
