@@ -1,7 +1,7 @@
 -- What the drawers stand for as a checkpoint, the cursor or a blank root is kept.
-use Rattle.std.proofs.Common.{◌≡◌, ℕ, zero, suc, ◌<◌, ◌≤◌, List, [], length, replicate, Some, sym, refl, ap, ◌∙◌, subst, ⊎_elim, arith, length-set}
+use Rattle.std.proofs.Common.{◌≡◌, ℕ, zero, suc, ◌<◌, ◌≤◌, List, [], length, replicate, Some, sym, refl, ap, ◌∙◌, subst, arith, length-set}
 use Rattle.std.proofs.lemmas.List.{get_or-set_same, get_or-set_other}
-use Rattle.std.proofs.lemmas.Bool.{cases_eq}
+use Rattle.std.proofs.lemmas.Grind.{common_steps}
 use Rattle.sums.specs.Cells.{pages, slots}
 use Rattle.sums.specs.Pages.{sum_width, count_width}
 use Rattle.sums.specs.Tables.{zero_table}
@@ -54,16 +54,8 @@ shadow_other Second = (λ e. cc, λ e. cc)
 pub page_more : (ds : Drawers) (s : PageSet) (ss cs : List ℕ) (n d : ℕ) → length ds ≡ drawers → PagesKept ds s ss cs n → page_drawer s n ≡ Some d →
     PagesKept (with_drawer ds d (cut_bytes n ss cs)) s ss cs (suc n)
 page_more ds s ss cs n d len before here p e lt at =
-    let es = with_drawer ds d (cut_bytes n ss cs) in
     let within : d < length ds = omega (arith, page_apart s n d here) in
-    ⊎_elim
-    (λ (last : p ≡ n).
-    let some : Some e ≡ Some d = sym at ∙ ap (page_drawer s) last ∙ here in
-    let same : e ≡ d = cc in
-    ap (drawer_at es) same ∙ get_or-set_same ds d (cut_bytes n ss cs) [] within ∙ ap (λ k. cut_bytes k ss cs) (sym last))
-    (λ (not_last : p ≡ n → ⊥).
-    get_or-set_other ds d e (cut_bytes n ss cs) [] (λ same. not_last (pages_apart s s p n d (at ∙ ap Some same) here).1) ∙ before p e (omega arith) at)
-    (cases_eq p n)
+    grind (arith, common_steps, before p e, pages_apart s s p n d)
 
 module _ (ds : Drawers) (len : length ds ≡ drawers) where
   -- what is read of the root's drawer and of the others, once a root is kept

@@ -1,5 +1,5 @@
 -- The drawers' numbers: all different, and below 256.
-use Rattle.std.proofs.Common.{◌≡◌, ℕ, ◌+◌, ◌<◌, Bool, true, false, cond, ltb, Some, None, Option, refl, ap, ◌∙◌, arith, lit<}
+use Rattle.std.proofs.Common.{◌≡◌, ℕ, ◌+◌, ◌<◌, cond, ltb, Some, None, refl, arith, lit<}
 use Rattle.std.proofs.lemmas.Bool.Decides.{nat_tests}
 use Rattle.sums.specs.Cells.{pages}
 use Rattle.store.specs.Drawers.{drawers, cursor_copy, first_set, second_set, page_drawer, DrawersLaw}

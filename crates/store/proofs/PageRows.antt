@@ -21,7 +21,7 @@ cut_behind p xs = grind (arith, drop-drop (slots * p) slots xs)
 -- a table with one page more of another
 module _ (p : ℕ) (xs ys zs : List ℕ) (len : length xs ≡ places) (lt : p < pages) (page : length ys ≡ slots) where
   pub length_next : length (written xs (slots * p) ys) ≡ places
-  length_next = length_written xs (slots * p) ys (omega arith) ∙ len
+  length_next = grind (arith, length_written {A = ℕ})
 
   pub table_next : page_cut p zs ≡ ys → take (slots * p) xs ≡ take (slots * p) zs →
       take (slots * suc p) (written xs (slots * p) ys) ≡ take (slots * suc p) zs

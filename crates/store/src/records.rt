@@ -16,7 +16,8 @@ pub enum RecordError {
     TooShort,
 }
 
-// The pages that a root record names: none, or those of one of two sets. No `Option` of two sets, since only a type of this crate gives `u64` a `From`.
+// The pages that a root record names: none, or those of one of two sets.
+// `None` is a variant: `u64` can have a `From` of a type of this crate, and not of an `Option`.
 #[derive(Clone, Copy, PartialEq, Eq, Debug)]
 pub enum PageSet {
     None,

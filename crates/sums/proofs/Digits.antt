@@ -30,7 +30,7 @@ value_digits (suc w) n =
     ap (λ m. n % 256 + 256 * m) (value_digits w (n / 256)) ∙ omega (arith, split) ∙ ap (λ m. n % m) (sym (pow-suc 256 w))
 
 pub value_back : (w n : ℕ) → fits w n ≡ true → value (digits w n) ≡ n
-value_back w n small = value_digits w n ∙ mod-eq_of_lt (ltb-true n (256 ^ w) small)
+value_back w n small = grind (arith, value_digits, mod-eq_of_lt, ltb-true)
 
 -- zeros behind bytes do not count
 pub value_zeros : (bs : List ℕ) (k : ℕ) → value (bs ++ replicate k 0) ≡ value bs

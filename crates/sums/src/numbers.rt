@@ -109,7 +109,7 @@ pub(crate) fn put_row(numbers: &[u64], width: Width, out: &mut [u8])
     requires { width.bytes * length numbers.now ≤ length out.old }
     ensures { out.new ≡ row_over width.bytes numbers.now out.old }
 {
-    // By the place: what is written through parts that a loop moves along is not known behind it.
+    // By index: of parts that a loop splits off, a proof does not know once it is over what was written.
     for (i, number) in numbers.iter().enumerate() {
         let at = width.bytes * i;
         put_number(*number, &mut out[at..at + width.bytes]);
