@@ -67,7 +67,7 @@ impl<'a> Event<'a> {
 }
 
 fn check_length(bytes: &[u8]) -> Result<(), StepError>
-    ensures { MatchResult result (λ _. length bytes.now ≤ 4096) (λ e. (e ≡ StepError.TooManyBytes) × (4096 < length bytes.now)) }
+    ensures { MatchResult result (λ _. length bytes.now ≤ LETTER) (λ e. (e ≡ StepError.TooManyBytes) × (LETTER < length bytes.now)) }
 {
     if bytes.len() > LETTER {
         return Err(StepError::TooManyBytes);
@@ -78,9 +78,9 @@ fn check_length(bytes: &[u8]) -> Result<(), StepError>
 // What the machine does when it is told of an event. One that cannot come in its phase changes nothing.
 fn react(memory: &mut Memory, event: Event<'_>, out: &mut Buffer) -> Act
     ensures did { Did (reacts memory.old (as_event event.entry)) result memory.new out.old out.new }
-    ensures long { length out.new ≡ 4096 }
+    ensures long { length out.new ≡ LETTER }
 {
-    let reading = Phase::try_from(memory[PHASE]) == Ok(Phase::Reading);
+    let reading = memory[PHASE] == u64::from(Phase::Reading);
     match event {
         Event::Wakes(_) => wake(memory),
         Event::Comes(time, place, value) if reading => accumulate(memory, time, place, value, out),
