@@ -1,98 +1,115 @@
--- Acts of the definitions, at the machine that stands for a hut.
-use Rattle.std.proofs.Common.{◌≡◌, ℕ, zero, suc, ◌+◌, ◌<◌, ◌≤◌, Bool, true, false, ◌&&◌, ltb, ◌⊎◌, List, [], ◌∷◌, ◌++◌, drop, sym, refl, ap, ◌∙◌, inl, inr}
-use Rattle.std.proofs.lemmas.Bool.{lt-ltb, le-ltb, eq-eqb, ne_eqb}
-use Rattle.sums.specs.Sums.{Gauges, pick}
+-- What an act does, at the machine that stands for a hut.
+use Rattle.std.proofs.Common.{◌≡◌, ℕ, zero, suc, ◌+◌, ◌-◌, ◌<◌, ◌≤◌, Bool, true, false, ◌&&◌, leb, ◌⊎◌, List, [], ◌∷◌, length, get_or, drop, ◌∙◌, sym, refl, ap, inl, inr, arith}
+use Rattle.std.proofs.lemmas.Bool.{lt-ltb, le-ltb, le-leb, lt-leb, eq-eqb, ne_eqb}
+use Rattle.sums.specs.Sums as given
+use Rattle.sums.specs.declared.reading.Reading.{Reading}
+use Rattle.sums.specs.Readings.{as_reading, as_row}
+use Rattle.sums.proofs.Eaches.{length_each}
 use Rattle.machine.specs.Run as run
-use Rattle.machine.specs.Run.{machine, machine_at, set_nth, nth_row, with_machine, faulty, acted, more, from, let_go, sends, keep, recall, tells, rests, next, ends, later, slot, bytes, at_end, first_reading}
-use Rattle.hut.specs.Played.{told_next, after_more, After, from_good, release_good}
+use Rattle.machine.specs.Run.{machine, machine_at, set_nth, nth_row, acted, more, from, let_go, sends, keep, recall, tells, rests, next, comes, ends, later, slot, bytes, first_reading}
+use Rattle.rows.specs.declared.Row.{Row}
+use Rattle.hut.specs.declared.effect.Effect.TheVariants.{Asked, Sought, Released, Sent, Kept, Recalled, Told, Rested, Fault}
+use Rattle.hut.specs.declared.text.Text.{Text}
+use Rattle.hut.specs.Effects.{Did}
+use Rattle.hut.proofs.Eaches.{reading_at}
+use Rattle.hut.specs.Played.{told_next, as_text}
 
-and_true : (b : Bool) → (b && true) ≡ b
-and_true true = refl
-and_true false = refl
+-- where readings may come from, and what may be released
+abbrev pub from_good : run.Machine → ℕ → Bool
+from_good x p = leb x.gone p && leb p (x.gone + 4096)
 
-three_ways : {A B : Type 0} (f : A → B) (b c : Bool) (x y z : A) → pick b (f x) (pick c (f y) (f z)) ≡ f (pick b x (pick c y z))
-three_ways f true c x y z = refl
-three_ways f false true x y z = refl
-three_ways f false false x y z = refl
+abbrev pub release_good : run.Machine → ℕ → Bool
+release_good x p = leb x.gone p && leb p x.reads_at
 
-pick_and : {A : Type 0} (b c : Bool) (x y : A) → c ≡ true → pick (b && c) x y ≡ pick b x y
-pick_and b true x y e = ap (λ t. pick t x y) (and_true b)
-pick_and b false x y e = cc
-
-module _ (gs : Gauges) (w : run.World) (i : ℕ) (m : List ℕ) (x : run.Machine) (is : machine_at w.machines i ≡ x) where
-  pub acted_more : acted gs w i m more ≡ with_machine w i (after_more (nth_row gs i) x m)
+-- the next reading, that there is none, or that the roll is full
+module _ (row : List Reading) (i : ℕ) (x : run.Machine) (m : List ℕ) where
+  pub did_end : length row ≤ x.reads_at → Did (as_row row) i x m more (told_next x m (ends ∷ [])) Asked
   unfolding acted
-  acted_more =
-      rw is (three_ways (with_machine w i) (at_end (nth_row gs i) x.reads_at) (ltb x.reads_at (x.gone + 4096)) (told_next x m (ends ∷ []))
-      (machine m (first_reading (drop x.reads_at (nth_row gs i)) ∷ []) (suc x.reads_at) x.gone x.slots) (told_next x m (later ∷ [])))
+  did_end le =
+      let past : length (as_row row) ≤ x.reads_at = rw (length_each as_reading row) le in
+      (λ gs w is_row is. rw (is_row, is, le-leb _ _ past), (refl, refl))
 
-  pub acted_from : (p : ℕ) → acted gs w i m (from p) ≡ pick (from_good x p) (with_machine w i (machine m (next ∷ []) p x.gone x.slots)) (faulty w)
-  unfolding acted
-  acted_from p = rw is
+  module _ (lt : x.reads_at < length row) where
+    inside : x.reads_at < length (as_row row)
+    inside = rw (length_each as_reading row) lt
 
-  pub acted_let_go : (p : ℕ) → acted gs w i m (let_go p) ≡ pick (release_good x p) (with_machine w i (machine m (next ∷ []) x.reads_at p x.slots)) (faulty w)
-  unfolding acted
-  acted_let_go p = rw is
+    pub did_wait : 4096 ≤ x.reads_at - x.gone → Did (as_row row) i x m more (told_next x m (later ∷ [])) Asked
+    unfolding acted
+    did_wait full =
+        let on : x.gone + 4096 ≤ x.reads_at = omega arith in
+        (λ gs w is_row is. rw (is_row, is, lt-leb _ _ inside, le-ltb _ _ on), (refl, refl))
 
-  pub acted_keep : (d : ℕ) (bs : List ℕ) → bytes bs ≡ true →
-      acted gs w i m (keep d bs) ≡ pick (ltb d 256) (with_machine w i (machine m (next ∷ []) x.reads_at x.gone (set_nth x.slots d bs))) (faulty w)
-  unfolding acted
-  acted_keep d bs fit = rw is (pick_and (ltb d 256) (bytes bs) (with_machine w i (machine m (next ∷ []) x.reads_at x.gone (set_nth x.slots d bs))) (faulty w) fit)
+    pub did_read : (r : Reading) → r ≡ get_or row x.reads_at r → x.reads_at - x.gone < 4096 →
+        Did (as_row row) i x m more (machine m (comes r.time r.place r.value ∷ []) (x.reads_at + 1) x.gone x.slots) Asked
+    unfolding acted
+    did_read r at room =
+        let on : x.reads_at < x.gone + 4096 = omega arith in
+        let s : x.reads_at + 1 ≡ suc x.reads_at = omega arith in
+        let e : comes r.time r.place r.value ≡ first_reading (drop x.reads_at (as_row row)) = ap (λ q. comes q.time q.place q.value) at ∙ sym (reading_at row x.reads_at r lt) in
+        (λ gs w is_row is. rw (is_row, is, lt-leb _ _ inside, lt-ltb _ _ on, s, e), (refl, refl))
 
-  pub acted_recall : (d : ℕ) → acted gs w i m (recall d) ≡ pick (ltb d 256) (with_machine w i (told_next x m (slot (nth_row x.slots d) ∷ []))) (faulty w)
-  unfolding acted
-  acted_recall d = rw is
-
-  pub acted_rests : acted gs w i m rests ≡ with_machine w i (told_next x m [])
-  unfolding acted
-  acted_rests = rw is
-
--- an act that may be a fault: what it leaves, and where the world is then
-module _ (x x₁ y : run.Machine) (r good : Bool) (h : After r x₁ good x y) where
-  pub after_good : r ≡ true → x₁ ≡ y
-  after_good e =
-      let g : good ≡ true = sym h.0 ∙ e in
-      h.1 ∙ simp g
-
-  pub after_fault : r ≡ false → x₁ ≡ x
-  after_fault e =
-      let g : good ≡ false = sym h.0 ∙ e in
-      h.1 ∙ simp g
-
-  module _ (w : run.World) (i : ℕ) where
-    pub world_good : r ≡ true → with_machine w i x₁ ≡ pick good (with_machine w i y) (faulty w)
-    world_good e =
-        let g : good ≡ true = sym h.0 ∙ e in
-        ap (with_machine w i) (after_good e) ∙ simp g
-
-    pub world_fault : r ≡ false → faulty w ≡ pick good (with_machine w i y) (faulty w)
-    world_fault e =
-        let g : good ≡ false = sym h.0 ∙ e in
-        simp g
-
--- a letter sent, or a row told: two parts of the world change
-module _ (gs : Gauges) (w : run.World) (i : ℕ) (m : List ℕ) (x : run.Machine) (is : machine_at w.machines i ≡ x) where
-  pub acted_tells : (h k v : ℕ) → acted gs w i m (tells h k v) ≡
-      record { machines = set_nth w.machines i (told_next x m (next ∷ [])); wires = w.wires; told = w.told ++ record { hour = h; place = k; sum = v } ∷ []; fault = w.fault }
-  unfolding acted
-  acted_tells h k v = rw is
-
-  pub acted_sends : (j : ℕ) (bs : List ℕ) → j < 8 → (i ≡ j → ⊥) → bytes bs ≡ true → acted gs w i m (sends j bs) ≡
-      record { machines = set_nth w.machines i (told_next x m (next ∷ [])); wires = w.wires ++ record { sender = i; reader = j; text = bs } ∷ []; told = w.told; fault = w.fault }
-  unfolding acted
-  acted_sends j bs low apart fit = rw (is, lt-ltb j 8 low, ne_eqb i j apart, fit)
-
-  pub sends_wrong : (j : ℕ) (bs : List ℕ) → (8 ≤ j) ⊎ ((j < 8) × (j ≡ i)) → acted gs w i m (sends j bs) ≡ faulty w
-  unfolding acted
-  sends_wrong j bs (inl high) = rw (le-ltb j 8 high)
-  sends_wrong j bs (inr same) = rw (lt-ltb j 8 same.0, eq-eqb i j (sym same.1))
-
--- a drawer that was set to a text, said by what it has then
-pub set_found : (xs ys : List (List ℕ)) (d : ℕ) (t : List ℕ) → ys ≡ set_nth xs d t → ys ≡ set_nth xs d (nth_row ys d)
+-- a drawer that was set to a text has that text
+set_found : (xs : List (List ℕ)) (d : ℕ) (t : List ℕ) → set_nth xs d (nth_row (set_nth xs d t) d) ≡ set_nth xs d t
 unfolding set_nth nth_row
-set_found xs ys d t e = e ∙ sym (again xs d) ∙ ap (λ l. set_nth xs d (nth_row l d)) (sym e)
-  where
-    again : (xs : List (List ℕ)) (d : ℕ) → set_nth xs d (nth_row (set_nth xs d t) d) ≡ set_nth xs d t
-    again [] d = refl
-    again (x ∷ xs) zero = refl
-    again (x ∷ xs) (suc d) = ap (λ l. x ∷ l) (again xs d)
+set_found [] d t = refl
+set_found (x ∷ xs) zero t = refl
+set_found (x ∷ xs) (suc d) t = ap (λ l. x ∷ l) (set_found xs d t)
+
+module _ (rs : List given.Reading) (i : ℕ) (x : run.Machine) (m : List ℕ) where
+  -- where it may not be, and so nothing is done
+  pub wrong_from : (p : ℕ) → from_good x p ≡ false → Did rs i x m (from p) x Fault
+  unfolding acted
+  wrong_from p bad = (λ gs w row is. rw (is, bad), refl)
+
+  pub wrong_let_go : (p : ℕ) → release_good x p ≡ false → Did rs i x m (let_go p) x Fault
+  unfolding acted
+  wrong_let_go p bad = (λ gs w row is. rw (is, bad), refl)
+
+  pub wrong_sends : (j : ℕ) (bs : List ℕ) → (8 ≤ j) ⊎ ((j < 8) × (j ≡ i)) → Did rs i x m (sends j bs) x Fault
+  unfolding acted
+  wrong_sends j bs (inl high) = (λ gs w row is. rw (le-ltb j 8 high), refl)
+  wrong_sends j bs (inr same) = (λ gs w row is. rw (lt-ltb j 8 same.0, eq-eqb i j (sym same.1)), refl)
+
+  pub wrong_keep : (d : ℕ) (bs : List ℕ) → 256 ≤ d → Did rs i x m (keep d bs) x Fault
+  unfolding acted
+  wrong_keep d bs high = (λ gs w row is. rw (le-ltb d 256 high), refl)
+
+  pub wrong_recall : (d : ℕ) → 256 ≤ d → Did rs i x m (recall d) x Fault
+  unfolding acted
+  wrong_recall d high = (λ gs w row is. rw (le-ltb d 256 high), refl)
+
+  module _ (x₁ : run.Machine) where
+    pub did_from : (p : ℕ) → from_good x p ≡ true → x₁ ≡ machine m (next ∷ []) p x.gone x.slots → Did rs i x m (from p) x₁ (Sought p)
+    unfolding acted
+    did_from p good e = rw e (λ gs w row is. rw (is, good), (refl, refl))
+
+    pub did_let_go : (p : ℕ) → release_good x p ≡ true → x₁ ≡ machine m (next ∷ []) x.reads_at p x.slots → Did rs i x m (let_go p) x₁ (Released p)
+    unfolding acted
+    did_let_go p good e = rw e (λ gs w row is. rw (is, good), (refl, refl))
+
+    pub did_sends : (j : ℕ) (t : Text) (bs : List ℕ) → as_text t ≡ bs → j < 8 → (j ≡ i → ⊥) → x₁ ≡ told_next x m (next ∷ []) → Did rs i x m (sends j bs) x₁ (Sent j t)
+    unfolding acted
+    did_sends j t bs text low apart e =
+        let other : i ≡ j → ⊥ = λ q. apart (sym q) in
+        rw (e, ← text) (λ gs w row is. rw (is, lt-ltb j 8 low, ne_eqb i j other, t.fits), (refl, refl))
+
+    pub did_keep : (d : ℕ) (t : Text) (bs : List ℕ) (ss : List (List ℕ)) → as_text t ≡ bs → d < 256 → ss ≡ set_nth x.slots d (as_text t) →
+        x₁ ≡ machine m (next ∷ []) x.reads_at x.gone ss → Did rs i x m (keep d bs) x₁ (Kept d)
+    unfolding acted
+    did_keep d t bs ss text low put e =
+        rw (e, put, ← text) (λ gs w row is. rw (is, lt-ltb d 256 low, t.fits), (refl, sym (set_found x.slots d (as_text t))))
+
+    pub did_recall : (d : ℕ) (bs : List ℕ) → bs ≡ nth_row x.slots d → d < 256 → x₁ ≡ told_next x m (slot bs ∷ []) → Did rs i x m (recall d) x₁ (Recalled d)
+    unfolding acted
+    did_recall d bs had low e = rw (e, had) (λ gs w row is. rw (is, lt-ltb d 256 low), (refl, refl))
+
+    pub did_tells : (r : Row) → x₁ ≡ told_next x m (next ∷ []) → Did rs i x m (tells r.hour r.place r.sum) x₁ (Told r)
+    unfolding acted
+    did_tells r e = rw e (λ gs w row is. rw is, (refl, refl))
+
+    pub did_rest : x₁ ≡ told_next x m [] → Did rs i x m rests x₁ Rested
+    unfolding acted
+    did_rest e = rw e (λ gs w row is. rw is, (refl, refl))
+
+    pub did_more : (y : run.Machine) → x₁ ≡ y → Did rs i x m more y Asked → Did rs i x m more x₁ Asked
+    did_more y e did = rw e did

@@ -43,11 +43,6 @@ Lasts x x₁ Fault = x₁ ≡ x
 abbrev pub Did : List given.Reading → ℕ → run.Machine → List ℕ → run.Act → run.Machine → Effect → Type 0
 Did rs i x m a x₁ f = Does rs i x m a x₁ f × Lasts x x₁ f
 
--- the same of an act that was told; where the step was refused, it is a fault
-abbrev pub Acted : List given.Reading → ℕ → run.Machine → List ℕ → Option run.Act → run.Machine → Effect → Type 0
-Acted rs i x m (Some a) x₁ f = Did rs i x m a x₁ f
-Acted rs i x m None x₁ f = (f ≡ Fault) × (x₁ ≡ x)
-
 -- one step of a machine, in every world that it is in; none where it rests
 abbrev pub Turned : List given.Reading → ℕ → run.Machine → run.Machine → Option Effect → Type 0
 Turned rs i x x₁ (Some f) =

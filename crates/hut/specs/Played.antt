@@ -1,12 +1,11 @@
 -- The huts that are played, as machines of the definitions, and what an act leaves of one.
-use Rattle.std.specs.Prelude.{◌≡◌, ℕ, suc, ◌+◌, Bool, ◌&&◌, List, [], ◌∷◌, drop, Some, None, vec_items, Option, nat_le, nat_lt}
-use Rattle.sums.specs.Sums as given
-use Rattle.sums.specs.Sums.{each, pick}
+use Rattle.std.specs.Prelude.{◌≡◌, ℕ, List, [], ◌∷◌, Some, None, vec_items, Option}
+use Rattle.sums.specs.Sums.{each}
 use Rattle.machine.specs.Run as run
 use Rattle.machine.specs.Run.{wakes, comes, later, ends, letter, slot, next, machine, at_end, first_reading}
 use Rattle.machine.specs.Answers.{act_back}
 use Rattle.machine.specs.Entry.{own}
-use Rattle.machine.specs.declared.Told.{Told}
+use Rattle.machine.specs.declared.Act.{Act}
 use Rattle.hut.specs.declared.text.Text.{Text}
 use Rattle.hut.specs.declared.hut.Pending.{Pending}
 use Rattle.hut.specs.declared.hut.Pending.TheVariants.{Wakes, Comes, Later, Ends, Letter, Slot, Next}
@@ -36,26 +35,9 @@ as_machine h = machine (vec_items h.memory) (as_pending h.pending) h.reads_at h.
 abbrev pub told_next : run.Machine → List ℕ → List run.Event → run.Machine
 told_next x m evs = machine m evs x.reads_at x.gone x.slots
 
-abbrev pub after_more : List given.Reading → run.Machine → List ℕ → run.Machine
-after_more rs x m =
-    pick (at_end rs x.reads_at) (told_next x m (ends ∷ []))
-    (pick (nat_lt x.reads_at (x.gone + 4096))
-    (machine m (first_reading (drop x.reads_at rs) ∷ []) (suc x.reads_at) x.gone x.slots)
-    (told_next x m (later ∷ [])))
-
--- an act that may be a fault: whether it is none, and the machine then
-abbrev pub After : Bool → run.Machine → (good : Bool) → run.Machine → run.Machine → Type 0
-After r x₁ good x y = (r ≡ good) × (x₁ ≡ pick good y x)
-
-abbrev pub from_good : run.Machine → ℕ → Bool
-from_good x p = nat_le x.gone p && nat_le p (x.gone + 4096)
-
-abbrev pub release_good : run.Machine → ℕ → Bool
-release_good x p = nat_le x.gone p && nat_le p x.reads_at
-
 -- a step of a machine that has these events before it: none where it rests, and else its memory and its act, on the desk
-abbrev pub StepDone : List ℕ → List run.Event → Option Told → Desk → Type 0
+abbrev pub StepDone : List ℕ → List run.Event → Option Act → Desk → Type 0
 StepDone m [] r d = r ≡ None
 StepDone m (ev ∷ evs) None d = ⊥
-StepDone m (ev ∷ evs) (Some t) d =
-    (vec_items d.memory ≡ (own.step m ev).memory) × (act_back t d.row (vec_items d.out) ≡ Some (own.step m ev).act)
+StepDone m (ev ∷ evs) (Some a) d =
+    (vec_items d.memory ≡ (own.step m ev).memory) × (act_back a (vec_items d.out) ≡ (own.step m ev).act)

@@ -1,14 +1,19 @@
-// What a machine does in its hut, act by act. A desk holds what its step left: memory, row and bytes.
-ghost use Rattle.std.specs.Prelude.{◌≡◌, true, [], ◌∷◌, IfOk, nat_lt};
+// What a machine does in its hut, act by act. A desk holds what its step left: memory and bytes.
+ghost use Rattle.std.specs.Prelude.{◌≡◌, ℕ, List, [], ◌∷◌, take, IfOk};
 ghost use Rattle.machine.specs.Entry.{own};
-ghost use Rattle.machine.specs.Run.{machine, next, wakes, slot, set_nth, nth_row};
+ghost use Rattle.machine.specs.Run.{machine, wakes, set_nth, more, from, let_go, sends, keep, recall, tells, rests};
+ghost use Rattle.sums.specs.Sums as given;
 ghost use Rattle.sums.specs.Sums.{each, none_of};
 ghost use Rattle.sums.specs.Readings.{as_row};
-ghost use Rattle.hut.specs.Played.{as_machine, as_event, as_pending, as_text, told_next, after_more, After, from_good, release_good};
+ghost use Rattle.hut.specs.Effects.{Did};
+ghost use Rattle.hut.specs.declared.effect.Effect.TheVariants.{Asked};
+ghost use Rattle.hut.specs.Played.{as_machine, as_event, as_pending, as_text, told_next};
 
+use crate::effect::Effect;
 use crate::hut::{Desk, Hut, Pending};
 use crate::text::Text;
-use machine::{DRAWERS, ROLL};
+use machine::{DRAWERS, MACHINES, ROLL};
+use rows::Row;
 use std::alloc::{AllocError, Global};
 use std::mem;
 use sums::Reading;
@@ -16,23 +21,13 @@ use sums::Reading;
 fn put(drawers: &mut Vec<Text>, drawer: u64, text: Text)
     ensures { each as_text drawers.new.items ≡ set_nth (each as_text drawers.old.items) drawer (as_text text) }
 {
-    let at = drawer as usize;
-    if at < drawers.len() {
-        drawers[at] = text;
+    if let Some(place) = drawers.get_mut(drawer as usize) {
+        *place = text;
     }
-}
-
-fn text_of(heap: Global, drawers: &Vec<Text>, drawer: u64) -> Result<Text, AllocError>
-    ensures { IfOk result (λ t. as_text t ≡ nth_row (each as_text drawers.now.items) drawer) }
-{
-    let at = drawer as usize;
-    if at >= drawers.len() {
-        return Ok(Text::empty(heap));
-    }
-    Text::copied(heap, drawers[at].text.as_slice())
 }
 
 impl Hut {
+    #[tactic(auto, unfolding(sums::specs::Sums::none_of))]
     pub fn rests(&self) -> bool
         ensures { result ≡ none_of (as_machine self.now).pending }
     {
@@ -46,77 +41,6 @@ impl Hut {
         self.pending = Some(event);
     }
 
-    // Takes over the memory that the step left, and what it will be told next.
-    pub fn turn(&mut self, desk: &mut Desk, pending: Option<Pending>)
-        ensures { as_machine self.new ≡ told_next (as_machine self.old) desk.old.memory.items (as_pending pending) }
-    {
-        mem::swap(&mut self.memory, &mut desk.memory);
-        self.pending = pending;
-    }
-
-    // The next reading, unless there is none or the roll is full.
-    pub fn more(&mut self, desk: &mut Desk, row: &[Reading])
-        ensures { as_machine self.new ≡ after_more (as_row row.now) (as_machine self.old) desk.old.memory.items }
-    {
-        let at = self.reads_at as usize;
-        if at >= row.len() {
-            self.turn(desk, Some(Pending::Ends));
-        } else if self.reads_at.saturating_sub(self.gone) < ROLL {
-            self.reads_at += 1;
-            self.turn(desk, Some(Pending::Comes(row[at])));
-        } else {
-            self.turn(desk, Some(Pending::Later));
-        }
-    }
-
-    // Readings come from place p on; false where that may not be.
-    pub fn read_from(&mut self, desk: &mut Desk, p: u64) -> bool
-        ensures { After result (as_machine self.new) (from_good (as_machine self.old) p) (as_machine self.old) (machine desk.old.memory.items (next ∷ []) p self.old.gone (as_machine self.old).slots) }
-    {
-        if p < self.gone || p - self.gone > ROLL {
-            return false;
-        }
-        self.reads_at = p;
-        self.turn(desk, Some(Pending::Next));
-        true
-    }
-
-    // What is before place p is released; false where that may not be.
-    pub fn release(&mut self, desk: &mut Desk, p: u64) -> bool
-        ensures { After result (as_machine self.new) (release_good (as_machine self.old) p) (as_machine self.old) (machine desk.old.memory.items (next ∷ []) self.old.reads_at p (as_machine self.old).slots) }
-    {
-        if p < self.gone || p > self.reads_at {
-            return false;
-        }
-        self.gone = p;
-        self.turn(desk, Some(Pending::Next));
-        true
-    }
-
-    // A drawer has this text from now on; false where there is no such drawer.
-    pub fn keep(&mut self, desk: &mut Desk, drawer: u64, text: Text) -> bool
-        ensures { After result (as_machine self.new) (nat_lt drawer 256) (as_machine self.old) (machine desk.old.memory.items (next ∷ []) self.old.reads_at self.old.gone (set_nth (as_machine self.old).slots drawer (as_text text))) }
-    {
-        if drawer >= DRAWERS {
-            return false;
-        }
-        put(&mut self.drawers, drawer, text);
-        self.turn(desk, Some(Pending::Next));
-        true
-    }
-
-    // What a drawer has is told; false where there is no such drawer.
-    pub fn recall(&mut self, heap: Global, desk: &mut Desk, drawer: u64) -> Result<bool, AllocError>
-        ensures { IfOk result (λ b. After b (as_machine self.new) (nat_lt drawer 256) (as_machine self.old) (told_next (as_machine self.old) desk.old.memory.items (slot (nth_row (as_machine self.old).slots drawer) ∷ []))) }
-    {
-        if drawer >= DRAWERS {
-            return Ok(false);
-        }
-        let text = text_of(heap, &self.drawers, drawer)?;
-        self.turn(desk, Some(Pending::Slot(text)));
-        Ok(true)
-    }
-
     // It is struck: memory as at the start, and its gauge is read from what is released on.
     pub fn fall(&mut self, i: u64)
         ensures { as_machine self.new ≡ machine own.start (wakes i ∷ []) self.old.gone self.old.gone (as_machine self.old).slots }
@@ -124,5 +48,129 @@ impl Hut {
         self.memory.fill(0);
         self.pending = Some(Pending::Wakes(i));
         self.reads_at = self.gone;
+    }
+
+    // Takes over the memory that the step left, and what it will be told next.
+    fn turn(&mut self, desk: &mut Desk, pending: Option<Pending>)
+        ensures { as_machine self.new ≡ told_next (as_machine self.old) desk.old.memory.items (as_pending pending) }
+    {
+        mem::swap(&mut self.memory, &mut desk.memory);
+        self.pending = pending;
+    }
+
+    // The next reading; or that there is none, or, where the roll is full, that it comes later.
+    fn next_reading(&mut self, row: &[Reading]) -> Pending
+        ensures { (i : ℕ) (m : List ℕ) → Did (as_row row.now) i (as_machine self.old) m more (told_next (as_machine self.new) m (as_event result ∷ [])) Asked }
+    {
+        let Some(reading) = row.get(self.reads_at as usize) else {
+            return Pending::Ends;
+        };
+        if self.reads_at.saturating_sub(self.gone) >= ROLL {
+            return Pending::Later;
+        }
+        self.reads_at += 1;
+        Pending::Comes(*reading)
+    }
+
+    pub(crate) fn more(&mut self, desk: &mut Desk, row: &[Reading]) -> Effect
+        ensures { (i : ℕ) → Did (as_row row.now) i (as_machine self.old) desk.old.memory.items more (as_machine self.new) result }
+    {
+        let next = self.next_reading(row);
+        self.turn(desk, Some(next));
+        Effect::Asked
+    }
+
+    // Readings come from place p on, where that may be.
+    pub(crate) fn read_from(&mut self, desk: &mut Desk, p: u64) -> Effect
+        ensures { (rs : List given.Reading) (i : ℕ) → Did rs i (as_machine self.old) desk.old.memory.items (from p) (as_machine self.new) result }
+    {
+        if p < self.gone || p - self.gone > ROLL {
+            return Effect::Fault;
+        }
+        self.reads_at = p;
+        self.turn(desk, Some(Pending::Next));
+        Effect::Sought(p)
+    }
+
+    // What is before place p is released, where that may be.
+    pub(crate) fn release(&mut self, desk: &mut Desk, p: u64) -> Effect
+        ensures { (rs : List given.Reading) (i : ℕ) → Did rs i (as_machine self.old) desk.old.memory.items (let_go p) (as_machine self.new) result }
+    {
+        if p < self.gone || p > self.reads_at {
+            return Effect::Fault;
+        }
+        self.gone = p;
+        self.turn(desk, Some(Pending::Next));
+        Effect::Released(p)
+    }
+
+    // Machine i sends so many bytes of the desk to another.
+    pub(crate) fn send(
+        &mut self,
+        heap: Global,
+        desk: &mut Desk,
+        i: u64,
+        reader: u64,
+        len: u64,
+    ) -> Result<Effect, AllocError>
+        ensures { IfOk result (λ f. (rs : List given.Reading) → Did rs i (as_machine self.old) desk.old.memory.items (sends reader (take len desk.old.out.items)) (as_machine self.new) f) }
+    {
+        if reader >= MACHINES || reader == i {
+            return Ok(Effect::Fault);
+        }
+        let text = desk.text(heap, len)?;
+        self.turn(desk, Some(Pending::Next));
+        Ok(Effect::Sent(reader, text))
+    }
+
+    // A drawer has so many bytes of the desk from now on, if there is such a drawer.
+    pub(crate) fn keep(
+        &mut self,
+        heap: Global,
+        desk: &mut Desk,
+        drawer: u64,
+        len: u64,
+    ) -> Result<Effect, AllocError>
+        ensures { IfOk result (λ f. (rs : List given.Reading) (i : ℕ) → Did rs i (as_machine self.old) desk.old.memory.items (keep drawer (take len desk.old.out.items)) (as_machine self.new) f) }
+    {
+        if drawer >= DRAWERS {
+            return Ok(Effect::Fault);
+        }
+        let text = desk.text(heap, len)?;
+        put(&mut self.drawers, drawer, text);
+        self.turn(desk, Some(Pending::Next));
+        Ok(Effect::Kept(drawer))
+    }
+
+    // What a drawer has is told, if there is such a drawer.
+    pub(crate) fn recall(
+        &mut self,
+        heap: Global,
+        desk: &mut Desk,
+        drawer: u64,
+    ) -> Result<Effect, AllocError>
+        ensures { IfOk result (λ f. (rs : List given.Reading) (i : ℕ) → Did rs i (as_machine self.old) desk.old.memory.items (recall drawer) (as_machine self.new) f) }
+    {
+        if drawer >= DRAWERS {
+            return Ok(Effect::Fault);
+        }
+        let text = Text::copied(heap, self.drawer(drawer))?;
+        self.turn(desk, Some(Pending::Slot(text)));
+        Ok(Effect::Recalled(drawer))
+    }
+
+    // A row for the wall.
+    pub(crate) fn tell(&mut self, desk: &mut Desk, row: Row) -> Effect
+        ensures { (rs : List given.Reading) (i : ℕ) → Did rs i (as_machine self.old) desk.old.memory.items (tells row.hour row.place row.sum) (as_machine self.new) result }
+    {
+        self.turn(desk, Some(Pending::Next));
+        Effect::Told(row)
+    }
+
+    pub(crate) fn rest(&mut self, desk: &mut Desk) -> Effect
+        ensures { (rs : List given.Reading) (i : ℕ) → Did rs i (as_machine self.old) desk.old.memory.items rests (as_machine self.new) result }
+    {
+        self.turn(desk, None);
+        Effect::Rested
     }
 }

@@ -3,7 +3,6 @@ ghost use Rattle.std.specs.Prelude.{◌≡◌, length, vec_len};
 ghost use Rattle.machine.specs.Entry.{own};
 
 use crate::text::Text;
-use machine::ROW;
 use sums::Reading;
 
 // What a machine will be told.
@@ -29,11 +28,10 @@ pub struct Hut {
     ghost sized: { vec_len memory ≡ length own.start },
 }
 
-// What a step works on and writes its answer into, so that a step that is no act leaves its machine as it was.
+// What a step works on and writes its answer into, so that an act that may not be leaves its machine as it was.
 #[derive(Drop)]
 pub struct Desk {
     pub memory: Vec<u64>,
-    pub row: [u64; ROW],
     pub out: Vec<u8>,
     ghost sized: { vec_len memory ≡ length own.start },
     ghost room: { vec_len out ≡ 4096 },

@@ -12,6 +12,7 @@ pub struct Text {
 }
 
 impl Text {
+    #[tactic(auto, unfolding(sums::specs::Sums::every))]
     pub fn empty(heap: Global) -> Text
         ensures { result.text.items ≡ [] }
     {
@@ -34,10 +35,7 @@ impl Text {
         requires { length from.now ≤ 4096 }
         ensures { IfOk result (λ t. t.text.items ≡ from.now) }
     {
-        let mut text = Vec::new(heap);
-        for b in from {
-            text.push(*b)?;
-        }
+        let text = Vec::from_slice(heap, from)?;
         Ok(Text { text })
     }
 }

@@ -1,6 +1,8 @@
 -- Huts as machines of the definitions: one of them looked at, and one set.
-use Rattle.std.proofs.Common.{◌≡◌, ℕ, zero, suc, ◌<◌, ◌≤◌, true, false, List, [], ◌∷◌, length, get_or, set, vec_items, vec_len, Vec, sym, refl, ap, ◌∙◌, arith}
-use Rattle.std.specs.declared.alloc.Global.{Global}
+use Rattle.std.proofs.Common.{◌≡◌, ℕ, zero, suc, ◌<◌, ◌≤◌, true, false, List, [], ◌∷◌, length, get_or, set, Some, None, sym, refl, ap, ◌∙◌, arith}
+use Rattle.std.specs.Borrow.{MutBor}
+use Rattle.std.specs.List.{IsItemAtMut}
+use Rattle.std.proofs.lemmas.Bool.{ltb-true, ltb-false}
 use Rattle.sums.specs.Sums.{each, none_of}
 use Rattle.machine.specs.Run as run
 use Rattle.machine.specs.Run.{machine, machine_at, set_nth, with_machine, next, poked}
@@ -10,11 +12,18 @@ use Rattle.sums.proofs.Eaches.{length_each}
 use Rattle.promise.proofs.Machines.{set_past}
 use Rattle.hut.proofs.Eaches.{each_set_nth}
 
-machine_is : (hs : List Hut) (i : ℕ) (d : Hut) → i < length hs → machine_at (each as_machine hs) i ≡ as_machine (get_or hs i d)
+hut_at : (hs : List Hut) (i : ℕ) (h : Hut) → i < length hs → h ≡ get_or hs i h → machine_at (each as_machine hs) i ≡ as_machine h
 unfolding each machine_at
-machine_is [] i d lt = absurd (omega arith)
-machine_is (h ∷ hs) zero d lt = refl
-machine_is (h ∷ hs) (suc i) d lt = machine_is hs i d (omega arith)
+hut_at [] i h lt is = absurd (omega arith)
+hut_at (x ∷ hs) zero h lt is = ap as_machine (sym is)
+hut_at (x ∷ hs) (suc i) h lt is = hut_at hs i h (omega arith) is
+
+-- what a hut that is lent says of its machine, and that there is none
+pub lent : (hs : List Hut) (i : ℕ) (h : MutBor Hut) → IsItemAtMut hs i (Some h) → machine_at (each as_machine hs) i ≡ as_machine h.now
+lent hs i h item = hut_at hs i h.now (ltb-true _ _ (sym item.0)) item.1
+
+pub none_lent : (hs : List Hut) (i : ℕ) → IsItemAtMut hs i None → length hs ≤ i
+none_lent hs i item = ltb-false _ _ (sym item.0)
 
 pub machine_past : (hs : List Hut) (i : ℕ) → length hs ≤ i → machine_at (each as_machine hs) i ≡ machine [] [] 0 0 []
 unfolding each machine_at
@@ -29,11 +38,17 @@ huts_world hs w = record { machines = each as_machine hs; wires = w.wires; told 
 pub hut_set : (hs : List Hut) (w : run.World) (i : ℕ) (h : Hut) → huts_world (set hs i h) w ≡ with_machine (huts_world hs w) i (as_machine h)
 hut_set hs w i h = ap (λ ms. record { machines = ms; wires = w.wires; told = w.told; fault = w.fault }) (each_set_nth as_machine hs i h)
 
--- what a hut that is lent or read says of its machine
-pub hut_at : (huts : Vec Hut Global) (i : ℕ) (h : Hut) → i < vec_len huts → h ≡ get_or (vec_items huts) i h → machine_at (each as_machine (vec_items huts)) i ≡ as_machine h
-hut_at huts i h lt is =
-    let inside : i < length (vec_items huts) = omega (arith, huts.ok.0) in
-    machine_is (vec_items huts) i h inside ∙ ap as_machine (sym is)
+-- a machine that is set to what it is
+pub set_same : (ms : List run.Machine) (i : ℕ) (x : run.Machine) → machine_at ms i ≡ x → set_nth ms i x ≡ ms
+unfolding set_nth machine_at
+set_same [] i x e = refl
+set_same (m ∷ ms) zero x e = ap (λ y. y ∷ ms) (sym e)
+set_same (m ∷ ms) (suc i) x e = ap (λ l. m ∷ l) (set_same ms i x e)
+
+-- a hut that was lent and is as it was
+pub hut_back : (hs : List Hut) (w : run.World) (i : ℕ) (h : Hut) (x : run.Machine) → machine_at (each as_machine hs) i ≡ x → as_machine h ≡ x →
+    huts_world (set hs i h) w ≡ huts_world hs w
+hut_back hs w i h x is e = hut_set hs w i h ∙ ap (λ ms. record { machines = ms; wires = w.wires; told = w.told; fault = w.fault }) (set_same (each as_machine hs) i (as_machine h) (is ∙ sym e))
 
 module _ (w : run.World) (i : ℕ) where
   pub poked_rest : (x : run.Machine) → machine_at w.machines i ≡ x → none_of x.pending ≡ true → poked w i ≡ with_machine w i (told_next x x.memory (next ∷ []))

@@ -1,4 +1,3 @@
 mod Huts
-mod Trying
 mod Posting
 mod Turning

@@ -1,121 +1,84 @@
--- Letters found and cut out of a list, from its front.
-use Rattle.std.proofs.Common.{◌≡◌, ℕ, suc, ◌+◌, ◌<◌, ◌≤◌, Bool, true, false, not, List, [], ◌∷◌, ◌++◌, length, get_or, take, drop, sym, refl, ap, ◌∙◌, ap₂, append_assoc, add-one, arith}
-use Rattle.std.specs.List.{remove}
-use Rattle.std.proofs.lemmas.List.{take_all, take-append-le, length-take-le}
+-- Letters found and cut out of a list.
+use Rattle.std.proofs.Common.{◌≡◌, ℕ, suc, ◌<◌, ◌≤◌, Bool, true, false, not, List, [], ◌∷◌, length, get_or, cond, Some, None, sym, ◌+◌, one-add, refl, ap, arith}
+use Rattle.std.specs.List.{filter, position, position_or_len, remove}
+use Rattle.std.proofs.lemmas.Bool.{ltb-true, ltb-false}
 use Rattle.sums.specs.Sums.{each, those, pick}
 use Rattle.machine.specs.Run as run
 use Rattle.machine.specs.Run.{is_between, touches, first_between, without_first}
-use Rattle.sums.proofs.Eaches.{each_append}
-use Rattle.rows.proofs.Summed.{each_take, each_split}
-use Rattle.rows.proofs.Walls.{those_append}
 use Rattle.world.specs.Posts.{as_letter}
 use Rattle.world.specs.declared.post.Letter.{Letter}
 
+-- without the first there is none: nothing is taken out
+pub none_rest : (i j : ℕ) (ls : List run.Letter) → first_between i j ls ≡ [] → without_first i j ls ≡ ls
+unfolding first_between without_first
+none_rest i j [] none = refl
+none_rest i j (l ∷ ls) none = go (is_between i j l) none (none_rest i j ls)
+  where
+    go : (b : Bool) → pick b (l ∷ []) (first_between i j ls) ≡ [] → (first_between i j ls ≡ [] → without_first i j ls ≡ ls) → pick b ls (l ∷ without_first i j ls) ≡ l ∷ ls
+    go true h k = cc
+    go false h k = ap (λ xs. l ∷ xs) (k h)
+
+no_place : (b : Bool) (p : ℕ) → None ≡ cond b (Some p) None → b ≡ false
+no_place true p e = cc
+no_place false p e = refl
+
+a_place : (b : Bool) (p k : ℕ) → Some k ≡ cond b (Some p) None → (b ≡ true) × (k ≡ p)
+a_place true p k e = (refl, cc)
+a_place false p k e = (cc, cc)
+
 module _ (i j : ℕ) where
-  pub none_more : (xs : List run.Letter) (x : run.Letter) → first_between i j xs ≡ [] → is_between i j x ≡ false → first_between i j (xs ++ x ∷ []) ≡ []
-  unfolding first_between
-  none_more [] x none e = rw e
-  none_more (y ∷ xs) x none e = go (is_between i j y) none (none_more xs x)
+  abbrev pub here : Letter → Bool
+  here l = is_between i j (as_letter l)
+
+  taken_rest : (ws : List Letter) → each as_letter (remove ws (position_or_len here ws)) ≡ without_first i j (each as_letter ws)
+  unfolding each without_first
+  taken_rest [] = refl
+  taken_rest (x ∷ ws) = go (here x) (position_or_len here ws) (taken_rest ws)
     where
-      go : (b : Bool) → pick b (y ∷ []) (first_between i j xs) ≡ [] → (first_between i j xs ≡ [] → is_between i j x ≡ false → first_between i j (xs ++ x ∷ []) ≡ []) →
-          pick b (y ∷ []) (first_between i j (xs ++ x ∷ [])) ≡ []
-      go true h k = cc
-      go false h k = k h e
+      go : (b : Bool) (k : ℕ) → each as_letter (remove ws k) ≡ without_first i j (each as_letter ws) →
+          each as_letter (remove (x ∷ ws) (cond (not b) (1 + k) 0)) ≡ pick b (each as_letter ws) (as_letter x ∷ without_first i j (each as_letter ws))
+      go true k e = refl
+      go false k e = rw one-add (ap (λ l. as_letter x ∷ l) e)
 
-  pub found_first : (xs ys : List run.Letter) (x : run.Letter) → first_between i j xs ≡ [] → is_between i j x ≡ true → first_between i j (xs ++ x ∷ ys) ≡ x ∷ []
-  unfolding first_between
-  found_first [] ys x none e = rw e
-  found_first (y ∷ xs) ys x none e = go (is_between i j y) none (found_first xs ys x)
+  taken_first : (ws : List Letter) (y : Letter) → position_or_len here ws < length ws → y ≡ get_or ws (position_or_len here ws) y →
+      first_between i j (each as_letter ws) ≡ as_letter y ∷ []
+  unfolding each first_between
+  taken_first [] y lt is = absurd (omega arith)
+  taken_first (x ∷ ws) y lt is = go (here x) (position_or_len here ws) (taken_first ws y) lt is
     where
-      go : (b : Bool) → pick b (y ∷ []) (first_between i j xs) ≡ [] → (first_between i j xs ≡ [] → is_between i j x ≡ true → first_between i j (xs ++ x ∷ ys) ≡ x ∷ []) →
-          pick b (y ∷ []) (first_between i j (xs ++ x ∷ ys)) ≡ x ∷ []
-      go true h k = cc
-      go false h k = k h e
+      go : (b : Bool) (k : ℕ) → (k < length ws → y ≡ get_or ws k y → first_between i j (each as_letter ws) ≡ as_letter y ∷ []) →
+          cond (not b) (1 + k) 0 < suc (length ws) → y ≡ get_or (x ∷ ws) (cond (not b) (1 + k) 0) y →
+          pick b (as_letter x ∷ []) (first_between i j (each as_letter ws)) ≡ as_letter y ∷ []
+      go true k f lt is = ap (λ l. as_letter l ∷ []) (sym is)
+      go false k f lt is = f (omega arith) (rw one-add at is)
 
-  pub found_rest : (xs ys : List run.Letter) (x : run.Letter) → first_between i j xs ≡ [] → is_between i j x ≡ true → without_first i j (xs ++ x ∷ ys) ≡ xs ++ ys
-  unfolding first_between without_first
-  found_rest [] ys x none e = rw e
-  found_rest (y ∷ xs) ys x none e = go (is_between i j y) none (found_rest xs ys x)
+  none_first : (ws : List Letter) → length ws ≤ position_or_len here ws → first_between i j (each as_letter ws) ≡ []
+  unfolding each first_between
+  none_first [] le = refl
+  none_first (x ∷ ws) le = go (here x) (position_or_len here ws) (none_first ws) le
     where
-      go : (b : Bool) → pick b (y ∷ []) (first_between i j xs) ≡ [] → (first_between i j xs ≡ [] → is_between i j x ≡ true → without_first i j (xs ++ x ∷ ys) ≡ xs ++ ys) →
-          pick b (xs ++ x ∷ ys) (y ∷ without_first i j (xs ++ x ∷ ys)) ≡ y ∷ (xs ++ ys)
-      go true h k = cc
-      go false h k = ap (λ l. y ∷ l) (k h e)
+      go : (b : Bool) (k : ℕ) → (length ws ≤ k → first_between i j (each as_letter ws) ≡ []) → suc (length ws) ≤ cond (not b) (1 + k) 0 →
+          pick b (as_letter x ∷ []) (first_between i j (each as_letter ws)) ≡ []
+      go true k f le = absurd (omega arith)
+      go false k f le = f (omega arith)
 
-  pub none_rest : (xs : List run.Letter) → first_between i j xs ≡ [] → without_first i j xs ≡ xs
-  unfolding first_between without_first
-  none_rest [] none = refl
-  none_rest (y ∷ xs) none = go (is_between i j y) none (none_rest xs)
-    where
-      go : (b : Bool) → pick b (y ∷ []) (first_between i j xs) ≡ [] → (first_between i j xs ≡ [] → without_first i j xs ≡ xs) → pick b xs (y ∷ without_first i j xs) ≡ y ∷ xs
-      go true h k = cc
-      go false h k = ap (λ l. y ∷ l) (k h)
+  -- what is at the place that was looked for
+  module _ (ws xs : List Letter) (is : xs ≡ ws) where
+    pub none_there : None ≡ position here xs → first_between i j (each as_letter ws) ≡ []
+    none_there e = none_first ws (ltb-false _ _ (no_place _ _ (rw is at e)))
 
--- the letter at a place of the wires, found or passed over
-module _ (i j : ℕ) (ws : List Letter) (k : ℕ) (x : Letter) (is : x ≡ get_or ws k x) (lt : k < length ws)
-    (none : first_between i j (each as_letter (take k ws)) ≡ []) where
-  cut_here : each as_letter ws ≡ each as_letter (take k ws) ++ as_letter x ∷ each as_letter (drop (k + 1) ws)
-  cut_here = each_split as_letter ws k x is lt ∙ append_assoc (each as_letter (take k ws)) (as_letter x ∷ []) (each as_letter (drop (k + 1) ws))
+    pub found_there : (k : ℕ) (y : Letter) → Some k ≡ position here xs → y ≡ get_or ws k y →
+        (first_between i j (each as_letter ws) ≡ as_letter y ∷ []) × (each as_letter (remove ws k) ≡ without_first i j (each as_letter ws))
+    found_there k y e at =
+        let place = a_place _ _ _ (rw is at e) in
+        (taken_first ws y (ltb-true _ _ place.0) (rw place.1 at at), rw place.1 (taken_rest ws))
 
-  pub passed : is_between i j (as_letter x) ≡ false → first_between i j (each as_letter (take (k + 1) ws)) ≡ []
-  passed e = ap (first_between i j) (each_take as_letter ws k x is lt) ∙ none_more i j (each as_letter (take k ws)) (as_letter x) none e
-
-  pub taken_first : is_between i j (as_letter x) ≡ true → first_between i j (each as_letter ws) ≡ as_letter x ∷ []
-  taken_first e = ap (first_between i j) cut_here ∙ found_first i j (each as_letter (take k ws)) (each as_letter (drop (k + 1) ws)) (as_letter x) none e
-
-  pub taken_rest : is_between i j (as_letter x) ≡ true → each as_letter (remove ws k) ≡ without_first i j (each as_letter ws)
-  taken_rest e =
-      each_append as_letter (take k ws) (drop (suc k) ws) ∙ ap (λ n. each as_letter (take k ws) ++ each as_letter (drop n ws)) (sym (add-one k))
-      ∙ sym (found_rest i j (each as_letter (take k ws)) (each as_letter (drop (k + 1) ws)) (as_letter x) none e) ∙ ap (without_first i j) (sym cut_here)
-
--- before a place, an element is removed
-take_front : (xs : List Letter) (k : ℕ) → k ≤ length xs → take k (remove xs k) ≡ take k xs
-take_front xs k le =
-    let long : length (take k xs) ≡ k = length-take-le k xs le in
-    let even : k ≤ length (take k xs) = omega arith in
-    take-append-le k (take k xs) (drop (suc k) xs) even ∙ take_all k (take k xs) (omega arith)
-
--- what is left of the wires when those of machine i are cut: the first k letters have been looked at
-abbrev pub stays : ℕ → run.Letter → Bool
-stays i l = not (touches i l)
-
-pub record Cut (i k : ℕ) (ws now : List Letter) : Type 0 where
-  pub same : those (stays i) (each as_letter now) ≡ those (stays i) (each as_letter ws)
-  pub front : those (stays i) (each as_letter (take k now)) ≡ each as_letter (take k now)
-
-pub cut_none : (i : ℕ) (ws : List Letter) → Cut i 0 ws ws
+pub those_each : {A B : Type 0} (f : A → B) (p : B → Bool) (xs : List A) → each f (filter (λ x. p (f x)) xs) ≡ those p (each f xs)
 unfolding each those
-cut_none i ws = record { same = refl; front = refl }
-
-pub cut_all : (i k : ℕ) (ws now : List Letter) → length now ≤ k → Cut i k ws now → each as_letter now ≡ those (stays i) (each as_letter ws)
-cut_all i k ws now le c =
-    let all : take k now ≡ now = take_all k now le in
-    ap (each as_letter) (sym all) ∙ sym c.front ∙ ap (λ l. those (stays i) (each as_letter l)) all ∙ c.same
-
-module _ (i k : ℕ) (ws now : List Letter) (x : Letter) (is : x ≡ get_or now k x) (lt : k < length now) (c : Cut i k ws now) where
-  pub cut_stays : touches i (as_letter x) ≡ false → Cut i (k + 1) ws now
-  unfolding those
-  cut_stays e =
-      let take-it : each as_letter (take (k + 1) now) ≡ each as_letter (take k now) ++ as_letter x ∷ [] = each_take as_letter now k x is lt in
-      let stay : those (stays i) (as_letter x ∷ []) ≡ as_letter x ∷ [] = rw e in
-      record {
-        same = c.same;
-        front = ap (those (stays i)) take-it ∙ those_append (stays i) (each as_letter (take k now)) (as_letter x ∷ []) ∙ ap₂ (λ a b. a ++ b) c.front stay ∙ sym take-it;
-      }
-
-  pub cut_goes : touches i (as_letter x) ≡ true → Cut i k ws (remove now k)
-  unfolding those
-  cut_goes e =
-      let gone : those (stays i) (as_letter x ∷ each as_letter (drop (k + 1) now)) ≡ those (stays i) (each as_letter (drop (k + 1) now)) = rw e in
-      let whole : each as_letter now ≡ each as_letter (take k now) ++ as_letter x ∷ each as_letter (drop (k + 1) now) =
-      each_split as_letter now k x is lt ∙ append_assoc (each as_letter (take k now)) (as_letter x ∷ []) (each as_letter (drop (k + 1) now)) in
-      let left : each as_letter (remove now k) ≡ each as_letter (take k now) ++ each as_letter (drop (k + 1) now) =
-      each_append as_letter (take k now) (drop (suc k) now) ∙ ap (λ n. each as_letter (take k now) ++ each as_letter (drop n now)) (sym (add-one k)) in
-      let fits : k ≤ length now = omega arith in
-      let first : take k (remove now k) ≡ take k now = take_front now k fits in
-      record {
-        same = ap (those (stays i)) left ∙ those_append (stays i) (each as_letter (take k now)) (each as_letter (drop (k + 1) now))
-            ∙ ap (λ l. those (stays i) (each as_letter (take k now)) ++ l) (sym gone)
-            ∙ sym (those_append (stays i) (each as_letter (take k now)) (as_letter x ∷ each as_letter (drop (k + 1) now))) ∙ ap (those (stays i)) (sym whole) ∙ c.same;
-        front = ap (λ l. those (stays i) (each as_letter l)) first ∙ c.front ∙ ap (each as_letter) (sym first);
-      }
+those_each f p [] = refl
+those_each f p (x ∷ xs) = go (p (f x)) (those_each f p xs)
+  where
+    go : (b : Bool) → each f (filter (λ x. p (f x)) xs) ≡ those p (each f xs) →
+        each f (cond b (x ∷ filter (λ x. p (f x)) xs) (filter (λ x. p (f x)) xs)) ≡ pick b (f x ∷ those p (each f xs)) (those p (each f xs))
+    go true e = ap (λ l. f x ∷ l) e
+    go false e = e

@@ -1,21 +1,21 @@
 -- What happens, as the definitions have it, at the machine that stands for a hut.
-use Rattle.std.proofs.Common.{◌≡◌, ℕ, zero, suc, ◌+◌, ◌≤◌, Bool, true, false, List, [], ◌∷◌, length, Some, vec_items, sym, refl, ap, ◌∙◌, subst, add-one, arith}
+use Rattle.std.proofs.Common.{◌≡◌, ℕ, zero, suc, ◌+◌, ◌≤◌, Bool, true, false, List, [], ◌∷◌, length, Some, sym, refl, ap, ◌∙◌, add-one, arith}
 use Rattle.std.proofs.lemmas.Bool.{both_ways}
 use Rattle.sums.specs.Sums.{each, none_of, Gauges}
 use Rattle.sums.proofs.Eaches.{length_each}
 use Rattle.machine.specs.Run as run
-use Rattle.machine.specs.Run.{machine, machine_at, set_nth, delivered, given, first_between, without_first, letter, acted, one_step, goes, by_each, up_to}
+use Rattle.machine.specs.Run.{machine, machine_at, set_nth, delivered, given, first_between, without_first, letter, nth_row, with_machine, one_step, goes, by_each, up_to}
 use Rattle.machine.specs.Entry.{own}
-use Rattle.machine.specs.Answers.{act_back}
-use Rattle.machine.specs.declared.Told.{Told}
 use Rattle.promise.proofs.Induction.{pick_both, goes_more}
 use Rattle.promise.proofs.Others.{by_each_append}
-use Rattle.hut.specs.Played.{as_machine, told_next, StepDone}
-use Rattle.world.specs.Worlds.{Acted, Went}
+use Rattle.hut.specs.Played.{as_machine, told_next}
+use Rattle.hut.specs.Effects.{after, Lasts, Turned}
+use Rattle.hut.specs.declared.effect.Effect.{Effect}
+use Rattle.hut.specs.declared.effect.Effect.TheVariants.{Asked, Sought, Released, Sent, Kept, Recalled, Told, Rested, Fault}
+use Rattle.world.specs.Worlds.{posted, Went}
 use Rattle.hut.specs.declared.hut.Hut.{Hut}
-use Rattle.hut.specs.declared.hut.Desk.{Desk}
 use Rattle.promise.proofs.Machines.{set_past}
-use Rattle.world.proofs.Huts.{huts_world, machine_past}
+use Rattle.world.proofs.Huts.{huts_world, machine_past, set_same}
 use Rattle.world.proofs.Posting.{none_rest}
 
 module _ (w : run.World) (i j : ℕ) (x : run.Machine) (is : machine_at w.machines j ≡ x) where
@@ -49,14 +49,21 @@ delivered_past hs w i j le = go (first_between i j w.wires) refl
         ∙ ap (λ ms. record { machines = ms; wires = without_first i j w.wires; told = w.told; fault = w.fault })
         (set_past (each as_machine hs) j (told_next (machine [] [] 0 0 []) [] (letter i l.text ∷ [])) far)
 
--- a step on the desk and its act are a step of the definitions
-pub went : (gs : Gauges) (w w₁ : run.World) (i : ℕ) (t : Told) (d : Desk) (m : List ℕ) (evs : List run.Event) → (machine_at w.machines i).memory ≡ m →
-    StepDone m evs (Some t) d → Acted gs w i (vec_items d.memory) (act_back t d.row (vec_items d.out)) w₁ → w₁ ≡ one_step own gs w i evs
-unfolding one_step
-went gs w w₁ i t d m [] e s a = cc
-went gs w w₁ i t d m (ev ∷ evs) e s a =
-    subst (λ o. Acted gs w i (vec_items d.memory) o w₁) s.1 a ∙ ap (λ n. acted gs w i n (own.step m ev).act) s.0
-    ∙ (λ k. acted gs w i (own.step (sym e k) ev).memory (own.step (sym e k) ev).act)
+-- a hut's turn and what is seen of it are a step of the definitions
+after_posted : (w : run.World) (i : ℕ) (x x₁ : run.Machine) (f : Effect) → machine_at w.machines i ≡ x → Lasts x x₁ f → posted (with_machine w i x₁) i f ≡ after w i x₁ f
+after_posted w i x x₁ Asked is l = refl
+after_posted w i x x₁ (Sought p) is l = refl
+after_posted w i x x₁ (Released p) is l = refl
+after_posted w i x x₁ (Sent j t) is l = refl
+after_posted w i x x₁ (Kept d) is l = refl
+after_posted w i x x₁ (Recalled d) is l = refl
+after_posted w i x x₁ (Told r) is l = refl
+after_posted w i x x₁ Rested is l = refl
+after_posted w i x x₁ Fault is l = rw (l, set_same w.machines i x is)
+
+pub went : (gs : Gauges) (w : run.World) (i : ℕ) (x x₁ : run.Machine) (f : Effect) → machine_at w.machines i ≡ x → Turned (nth_row gs i) i x x₁ (Some f) →
+    posted (with_machine w i x₁) i f ≡ one_step own gs w i (machine_at w.machines i).pending
+went gs w i x x₁ f is t = after_posted w i x x₁ f is t.1 ∙ t.0 gs w refl is ∙ ap (λ y. one_step own gs w i y.pending) (sym is)
 
 module _ (gs : Gauges) (w : run.World) (i : ℕ) where
   pub goes_fault : (n : ℕ) → w.fault ≡ true → goes n own gs w i ≡ w

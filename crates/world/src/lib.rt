@@ -7,5 +7,5 @@ mod turns;
 mod wires;
 pub mod world;
 
-pub use tally::Tally;
+pub use tally::{Kind, Tally};
 pub use world::World;

@@ -1,62 +1,118 @@
 // How many acts of each kind were done.
-ghost use Rattle.std.specs.Prelude.{◌≡◌, ◌<◌, slice_index, slice_set};
-ghost use Rattle.world.specs.Tallies.{kind_of, one_more, total_of};
+ghost use Rattle.std.specs.Prelude.{◌≡◌, ◌<◌, Some, slice_index, slice_set};
+ghost use Rattle.world.specs.Tallies.{place_of, kind_of, name_of, one_more, total_of};
 
-use machine::Told;
+use hut::Effect;
+use std::fmt;
 
 // The kinds of acts, and faults.
 pub const KINDS: usize = 9;
 
-#[derive(Clone, Copy)]
-pub struct Tally {
-    // Asked, sought, released, sent, kept, recalled, told, rested, faults.
-    pub counts: [u64; KINDS],
+#[derive(Clone, Copy, PartialEq, Eq, Debug)]
+pub enum Kind {
+    Asked,
+    Sought,
+    Released,
+    Sent,
+    Kept,
+    Recalled,
+    Told,
+    Rested,
+    Fault,
 }
 
-// The place of an act's kind in a tally; an act that there is not is a fault.
-fn kind_of(told: Told, fault: bool) -> usize
-    ensures kind { result ≡ kind_of told fault }
-    ensures low { result < 9 }
-{
-    if fault {
-        return 8;
+impl Kind {
+    pub const ALL: [Kind; KINDS] = [
+        Kind::Asked,
+        Kind::Sought,
+        Kind::Released,
+        Kind::Sent,
+        Kind::Kept,
+        Kind::Recalled,
+        Kind::Told,
+        Kind::Rested,
+        Kind::Fault,
+    ];
+
+    // Its place in a tally.
+    fn place(self) -> usize
+        ensures place { result ≡ place_of self }
+        ensures low { result < 9 }
+    {
+        self as usize
     }
-    match told {
-        Told::More => 0,
-        Told::From(_) => 1,
-        Told::LetGo(_) => 2,
-        Told::Sends(_) => 3,
-        Told::Keep(_) => 4,
-        Told::Recall(_) => 5,
-        Told::Tells(_) => 6,
-        Told::Rests => 7,
-        Told::No(_) => 8,
+}
+
+impl From<&Effect> for Kind {
+    ghost from_gives = { λ f k. k ≡ kind_of f.now };
+
+    fn from(effect: &Effect) -> Kind {
+        match effect {
+            Effect::Asked => Kind::Asked,
+            Effect::Sought(_) => Kind::Sought,
+            Effect::Released(_) => Kind::Released,
+            Effect::Sent(..) => Kind::Sent,
+            Effect::Kept(_) => Kind::Kept,
+            Effect::Recalled(_) => Kind::Recalled,
+            Effect::Told(_) => Kind::Told,
+            Effect::Rested => Kind::Rested,
+            Effect::Fault => Kind::Fault,
+        }
     }
+}
+
+// As it is counted.
+impl fmt::Display for Kind {
+    ghost output = { λ k. Some (name_of k) };
+
+    fn fmt<W: fmt::Write>(&self, f: &mut fmt::Formatter<W>) -> fmt::Result {
+        f.write_str(match self {
+            Kind::Asked => "asked",
+            Kind::Sought => "sought",
+            Kind::Released => "released",
+            Kind::Sent => "sent",
+            Kind::Kept => "kept",
+            Kind::Recalled => "recalled",
+            Kind::Told => "told",
+            Kind::Rested => "rested",
+            Kind::Fault => "faults",
+        })
+    }
+}
+
+#[derive(Clone, Copy)]
+pub struct Tally {
+    counts: [u64; KINDS],
 }
 
 impl Tally {
     pub fn new() -> Tally
-        ensures { total_of 0 result.counts ≡ 0 }
+        ensures { total_of result.counts ≡ 0 }
     {
         Tally { counts: [0; KINDS] }
     }
 
-    // One more of this kind; a count that is full stays full.
-    pub(crate) fn count(&mut self, told: Told, fault: bool)
-        ensures { self.new.counts ≡ slice_set self.old.counts (kind_of told fault) (one_more (slice_index self.old.counts (kind_of told fault))) }
+    // How many of this kind.
+    pub fn of(&self, kind: Kind) -> u64
+        ensures { result ≡ slice_index self.now.counts (place_of kind) }
     {
-        let kind = kind_of(told, fault);
-        self.counts[kind] = self.counts[kind].saturating_add(1);
+        self.counts[kind.place()]
+    }
+
+    // One more of this kind; a count that is full stays full.
+    pub(crate) fn count(&mut self, kind: Kind)
+        ensures { self.new.counts ≡ slice_set self.old.counts (place_of kind) (one_more (slice_index self.old.counts (place_of kind))) }
+    {
+        let place = kind.place();
+        self.counts[place] = self.counts[place].saturating_add(1);
     }
 
     // All of them together.
     pub fn total(&self) -> u64
-        ensures { result ≡ total_of 0 self.now.counts }
+        ensures { result ≡ total_of self.now.counts }
     {
-        let mut acts: u64 = 0;
-        for count in self.counts.iter() {
-            acts = acts.saturating_add(*count);
-        }
-        acts
+        self.counts
+            .iter()
+            .fold(0, |acts: u64, count| acts.saturating_add(*count))
     }
 }

@@ -5,9 +5,9 @@ ghost use Rattle.machine.specs.Run.{delivered, fallen, goes, round, calm, new_wo
 ghost use Rattle.sums.specs.Readings.{as_gauges};
 ghost use Rattle.world.specs.Worlds.{as_world, Went, took_place, all_poked, all_brought};
 
-use crate::tally::Tally;
+use crate::tally::{Kind, Tally};
 use crate::wires::{cut, take_letter};
-use crate::world::World;
+use crate::world::{World, row_of};
 use hut::{Desk, Hut, Pending};
 use machine::MACHINES;
 use river::Item;
@@ -19,16 +19,15 @@ impl World {
     fn deliver(&mut self, i: u64, j: u64)
         ensures { as_world self.new ≡ delivered (as_world self.old) i j }
     {
-        let to = j as usize;
-        if to >= self.huts.len() {
+        let Some(hut) = self.huts.get_mut(j as usize) else {
             let _lost = take_letter(&mut self.wires, i, j);
             return;
-        }
-        if !self.huts[to].rests() {
+        };
+        if !hut.rests() {
             return;
         }
         if let Some(letter) = take_letter(&mut self.wires, i, j) {
-            self.huts[to].hear(Pending::Letter(i, letter.text));
+            hut.hear(Pending::Letter(i, letter.text));
         }
     }
 
@@ -37,9 +36,8 @@ impl World {
         ensures { as_world self.new ≡ fallen own (as_world self.old) i }
     {
         cut(&mut self.wires, i);
-        let at = i as usize;
-        if at < self.huts.len() {
-            self.huts[at].fall(i);
+        if let Some(hut) = self.huts.get_mut(i as usize) {
+            hut.fall(i);
         }
     }
 
@@ -47,15 +45,15 @@ impl World {
     fn step(&mut self, heap: Global, gauges: &[Vec<Reading>], i: u64) -> Result<bool, AllocError>
         ensures { IfOk result (λ go. Went (as_gauges gauges.now) (as_world self.old) i go (as_world self.new)) }
     {
-        let at = i as usize;
-        if at >= self.huts.len() {
-            return Ok(false);
-        }
-        let Some(told) = self.huts[at].step(&mut self.desk) else {
+        let Some(hut) = self.huts.get_mut(i as usize) else {
             return Ok(false);
         };
-        self.act(heap, gauges, at, told)?;
-        self.tally.count(told, self.fault);
+        let row = row_of(gauges, i);
+        let Some(effect) = hut.take_turn(heap, &mut self.desk, row, i)? else {
+            return Ok(false);
+        };
+        self.tally.count(Kind::from(&effect));
+        self.post(i, effect)?;
         Ok(true)
     }
 

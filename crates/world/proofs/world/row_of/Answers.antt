@@ -1,4 +1,4 @@
-use Rattle.std.proofs.Common.{◌≤◌, List, length, vec_items, Vec, sym, ap, ◌∙◌}
+use Rattle.std.proofs.Common.{◌≡◌, ◌<◌, ◌≤◌, List, length, get_or, vec_items, Vec, rules, sym, ap, ◌∙◌, arith}
 use Rattle.std.specs.declared.alloc.Global.{Global}
 use Rattle.sums.specs.Sums.{each}
 use Rattle.sums.specs.Sums as given
@@ -11,15 +11,17 @@ use Rattle.world.proofs.world.row_of.Goals as goal
 abbrev row : Vec Reading Global → List given.Reading
 row v = as_row (vec_items v)
 
-pub returns-then-i-gauges : goal.returns-then-i-gauges
-unfolding each
-returns-then-i-gauges c =
+pub returns-in-Some : goal.returns-in-Some
+returns-in-Some c =
     let gs = c.args.gauges.now in
-    let le : length (each row gs) ≤ c.args.i = rw (length_each row gs) c.if-i-gauges.true in
-    sym (row_past (each row gs) c.args.i le)
+    let v = c.in-Some.row.now in
+    let lt : c.args.i < length gs = omega (arith, c.in-Some.ensures.lookup) in
+    let is : v ≡ get_or gs c.args.i v = search rules in
+    ap as_row c.as_slice.ensures.value ∙ ap row is ∙ sym (row_at row gs c.args.i v lt)
 
-pub returns : goal.returns
-returns c =
+pub returns-in-None : goal.returns-in-None
+unfolding each
+returns-in-None c =
     let gs = c.args.gauges.now in
-    let v = c.index-gauges-i.result in
-    ap as_row c.as_slice.ensures.value ∙ ap row c.index-gauges-i.is ∙ sym (row_at row gs c.args.i v c.if-i-gauges.false)
+    let le : length (each row gs) ≤ c.args.i = rw (length_each row gs) (omega (arith, c.in-None.ensures.lookup)) in
+    sym (row_past (each row gs) c.args.i le)

@@ -1,23 +1,21 @@
-use Rattle.std.proofs.Common.{◌≡◌, ℕ, ◌<◌, ◌≤◌, List, length, vec_items, sym, ap, ◌∙◌, arith, lit≤}
+use Rattle.std.proofs.Common.{◌≡◌, ◌<◌, ◌≤◌, get_or, length, vec_items, rules, sym, ap, ◌∙◌, arith}
 use Rattle.sums.specs.Sums.{each}
 use Rattle.sums.proofs.Eaches.{length_each}
 use Rattle.hut.specs.Played.{as_text}
 use Rattle.hut.proofs.Eaches.{row_at, row_past}
-use Rattle.hut.proofs.Texts.{fit_few}
 use Rattle.hut.proofs.hut.Hut.drawer.Goals as goal
 
-pub returns-then-at-len : goal.returns-then-at-len
-returns-then-at-len c =
-    let v = c.args.self.now.drawers in
-    let le : length (each as_text (vec_items v)) ≤ c.args.drawer = rw (length_each as_text (vec_items v)) (omega (arith, v.ok.0)) in
-    record { text = sym (row_past _ _ le); few = lit≤ tt }
+pub returns-in-Some-clause-text : goal.returns-in-Some-clause-text
+returns-in-Some-clause-text c =
+    let ts = vec_items c.args.self.now.drawers in
+    let t = c.in-Some.text.now in
+    let whole : c.deref.result.now ≡ ts = c.deref.ensures.value in
+    let is : t ≡ get_or ts c.args.drawer t = rw (← whole) (search rules) in
+    let lt : c.args.drawer < length ts = rw (← whole) (omega (arith, c.in-Some.ensures.lookup)) in
+    c.as_slice.ensures.value ∙ ap as_text is ∙ sym (row_at as_text ts c.args.drawer t lt)
 
-pub returns : goal.returns
-returns c =
-    let v = c.args.self.now.drawers in
-    let t = c.index.result.now in
-    let lt : c.args.drawer < length (vec_items v) = omega (arith, v.ok.0) in
-    let whole : ◌≡◌ {A = List ℕ} c.as_slice.result.now (as_text t) = c.as_slice.ensures.value in record {
-      text = whole ∙ ap as_text c.index.ensures ∙ sym (row_at as_text (vec_items v) c.args.drawer t lt);
-      few = rw whole (fit_few _ t.fits);
-    }
+pub returns-in-None-clause-text : goal.returns-in-None-clause-text
+returns-in-None-clause-text c =
+    let ts = vec_items c.args.self.now.drawers in
+    let le : length (each as_text ts) ≤ c.args.drawer = rw (length_each as_text ts, ← c.deref.ensures.value) (omega (arith, c.in-None.ensures.lookup)) in
+    sym (row_past _ _ le)
