@@ -1,5 +1,6 @@
 -- Text as bytes: its lines, the words of a line, and the number that a word writes. Assumes nothing: these are definitions.
 use Rattle.std.specs.Prelude.{◌≡◌, ℕ, ◌+◌, ◌-◌, ◌*◌, Bool, true, cond, ◌&&◌, ◌||◌, List, [], ◌∷◌, Some, None, Option, ◌==◌, nat_eq, nat_le, nat_lt}
+use Rattle.text.specs.declared.read.Lines.{Lines}
 
 abbrev pub Bytes : Type 0
 Bytes = List ℕ
@@ -30,6 +31,9 @@ in_front b (part ∷ parts) = (b ∷ part) ∷ parts
 unfoldable pub lines : Bytes → List Bytes
 lines [] = []
 lines (b ∷ bs) = cond (b == 10) ([] ∷ lines bs) (in_front b (lines bs))
+
+abbrev pub lines_left : Lines → List Bytes
+lines_left s = lines s.rest.now
 
 -- a word ends before a blank and at the end
 abbrev pub word_ends : Bytes → Bool

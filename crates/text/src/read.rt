@@ -1,7 +1,8 @@
 // Readers of bytes: lines, words and numbers. A reader answers what it read and what is left.
 ghost use Rattle.std.specs.Prelude.{◌≡◌, ℕ, Bool, ◌<◌, [], ◌∷◌, length, MatchOption, nat_eq, slice_index};
+ghost use Rattle.std.specs.Iterator.{YieldsFirstRef, at_most};
 ghost use Rattle.std.specs.Str.{bytes_eq};
-ghost use Rattle.text.specs.Text.{Computes, before, digit, from, lines, words};
+ghost use Rattle.text.specs.Text.{Computes, before, digit, from, lines, lines_left, words};
 ghost use Rattle.text.specs.Text as spec;
 
 fn is_blank(byte: u8) -> bool
@@ -32,6 +33,34 @@ pub fn first_line(bytes: &[u8]) -> Option<(&[u8], &[u8])>
         return Some((line, end));
     };
     Some((line, rest))
+}
+
+// The lines of a text, one after the other.
+#[derive(Drop)]
+pub struct Lines<'a> {
+    rest: &'a [u8],
+}
+
+impl<'a> Lines<'a> {
+    pub fn new(text: &'a [u8]) -> Lines<'a>
+        ensures { lines_left result ≡ lines text.now }
+    {
+        Lines { rest: text }
+    }
+}
+
+impl<'a> Iterator for Lines<'a> {
+    type Item = &'a [u8];
+
+    ghost next_gives = { YieldsFirstRef lines_left };
+
+    ghost remaining = { λ s. at_most (length s.rest.now) };
+
+    fn next(&mut self) -> Option<&'a [u8]> {
+        let (line, rest) = first_line(self.rest)?;
+        self.rest = rest;
+        Some(line)
+    }
 }
 
 // What stands before a comment.
