@@ -4,3 +4,4 @@ pub mod Sketch
 pub mod Rivers
 pub mod Mistakes
 pub mod Fine
+pub mod Spelling

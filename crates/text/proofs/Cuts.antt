@@ -1,34 +1,35 @@
 -- Parts of a text. Assumes nothing.
-use Rattle.std.proofs.Common.{◌≡◌, ℕ, ◌+◌, ◌<◌, ◌≤◌, Bool, true, false, not, eqb, List, [], ◌∷◌, length, get_or, drop, sym, refl, ap, ◌∙◌, ⊎_elim, arith}
-use Rattle.std.proofs.lemmas.List.{drop_more, drop_all}
+use Rattle.std.proofs.Common.{◌≡◌, ℕ, ◌<◌, ◌≤◌, Bool, false, cond, not, eqb, ltb, List, [], ◌∷◌, length, get_or, take, drop, Some, None, Option, sym, refl, ap, ◌∙◌, ⊎_elim, arith}
+use Rattle.std.proofs.Math.Numerals.{one-add}
+use Rattle.std.specs.List.{position_or_len}
+use Rattle.std.specs.Option.{unwrap_or}
+use Rattle.std.proofs.lemmas.Grind.{common_steps}
+use Rattle.std.proofs.lemmas.List.Sums.{prefix_len-le-length}
 use Rattle.std.proofs.lemmas.Bool.{cond-true, cond-false, cond_both, cases_Bool, not_from_false}
 use Rattle.text.specs.Text.{blank, before, from, in_front, lines, words}
 
 module _ (stop : ℕ → Bool) where
-  -- a byte that does not stop is passed
-  pub before_on : (bs : List ℕ) (i : ℕ) → i < length bs → stop (get_or bs i 0) ≡ false → before stop (drop i bs) ≡ get_or bs i 0 ∷ before stop (drop (i + 1) bs)
+  -- where a part ends: at the first byte that stops, or where the bytes end
+  abbrev pub cut_at : List ℕ → ℕ
+  cut_at bs = position_or_len stop bs
+
+  before_is : (bs : List ℕ) → take (cut_at bs) bs ≡ before stop bs
   unfolding before
-  before_on bs i h e = ap (before stop) (drop_more bs i 0 h) ∙ cond-false _ _ _ e
+  before_is [] = refl
+  before_is (b ∷ bs) = ⊎_elim (λ e. rw e refl) (λ e. rw e (rw (one-add (cut_at bs)) (ap (λ l. b ∷ l) (before_is bs)))) (cases_Bool (stop b))
 
-  pub from_on : (bs : List ℕ) (i : ℕ) → i < length bs → stop (get_or bs i 0) ≡ false → from stop (drop i bs) ≡ from stop (drop (i + 1) bs)
+  from_is : (bs : List ℕ) → drop (cut_at bs) bs ≡ from stop bs
   unfolding from
-  from_on bs i h e = ap (from stop) (drop_more bs i 0 h) ∙ cond-false _ _ _ e
+  from_is [] = refl
+  from_is (b ∷ bs) = ⊎_elim (λ e. rw e refl) (λ e. rw e (rw (one-add (cut_at bs)) (from_is bs))) (cases_Bool (stop b))
 
-  pub before_here : (bs : List ℕ) (i : ℕ) → i < length bs → stop (get_or bs i 0) ≡ true → before stop (drop i bs) ≡ []
-  unfolding before
-  before_here bs i h e = ap (before stop) (drop_more bs i 0 h) ∙ cond-true _ _ _ e
+  -- what `position` finds, or the length
+  found : (bs : List ℕ) (r : Option ℕ) → r ≡ cond (ltb (cut_at bs) (length bs)) (Some (cut_at bs)) None → unwrap_or r (length bs) ≡ cut_at bs
+  found bs r e = grind (arith, common_steps, prefix_len-le-length (λ x. not (stop x)) bs)
 
-  pub from_here : (bs : List ℕ) (i : ℕ) → i < length bs → stop (get_or bs i 0) ≡ true → from stop (drop i bs) ≡ drop i bs
-  unfolding from
-  from_here bs i h e = ap (from stop) (drop_more bs i 0 h) ∙ cond-true _ _ _ e ∙ sym (drop_more bs i 0 h)
-
-  pub before_end : (bs : List ℕ) (i : ℕ) → length bs ≤ i → before stop (drop i bs) ≡ []
-  unfolding before
-  before_end bs i h = ap (before stop) (drop_all i bs h)
-
-  pub from_end : (bs : List ℕ) (i : ℕ) → length bs ≤ i → from stop (drop i bs) ≡ drop i bs
-  unfolding from
-  from_end bs i h = ap (from stop) (drop_all i bs h) ∙ sym (drop_all i bs h)
+  pub cut_found : (bs front back : List ℕ) (r : Option ℕ) (end : ℕ) → r ≡ cond (ltb (cut_at bs) (length bs)) (Some (cut_at bs)) None → end ≡ unwrap_or r (length bs) →
+      front ≡ take end bs → back ≡ drop end bs → (front ≡ before stop bs) × (back ≡ from stop bs)
+  cut_found bs front back r end e f is rest = (is ∙ ap (λ n. take n bs) (f ∙ found bs r e) ∙ before_is bs, rest ∙ ap (λ n. drop n bs) (f ∙ found bs r e) ∙ from_is bs)
 
   pub from_length : (bs : List ℕ) → length (from stop bs) ≤ length bs
   unfolding from

@@ -1,7 +1,6 @@
 -- Text as bytes: its lines, the words of a line, and the number that a word writes. Assumes nothing: these are definitions.
-use Rattle.std.specs.Prelude.{ℕ, ◌+◌, ◌-◌, ◌*◌, Bool, true, cond, not, ◌&&◌, ◌||◌, List, [], ◌∷◌, Some, None, Option, ◌==◌, nat_eq, nat_le, nat_lt}
-use Rattle.text.specs.declared.read.Stop.{Stop}
-use Rattle.text.specs.declared.read.Stop.TheVariants.{LineEnd, Comment, Blank, Solid}
+use Rattle.std.specs.Prelude.{◌≡◌, ℕ, ◌+◌, ◌-◌, ◌*◌, Bool, true, cond, ◌&&◌, ◌||◌, List, [], ◌∷◌, Some, None, Option, ◌==◌, nat_eq, nat_le, nat_lt}
+use Rattle.text.specs.declared.read.Lines.{Lines}
 
 abbrev pub Bytes : Type 0
 Bytes = List ℕ
@@ -10,11 +9,9 @@ Bytes = List ℕ
 abbrev pub blank : ℕ → Bool
 blank b = b == 32 || (b == 9 || b == 13)
 
-abbrev pub stops : Stop → ℕ → Bool
-stops LineEnd b = b == 10
-stops Comment b = b == 35
-stops Blank b = blank b
-stops Solid b = not (blank b)
+-- a closure that answers of each byte what `p` says of it
+abbrev pub Computes : (ℕ → Bool → Type 0) → (ℕ → Bool) → Type 0
+Computes answers p = (b : ℕ) (r : Bool) → answers b r → r ≡ p b
 
 -- what stands before the first byte of which `stop` holds, and what stands from it on
 unfoldable pub before : (ℕ → Bool) → Bytes → Bytes
@@ -34,6 +31,9 @@ in_front b (part ∷ parts) = (b ∷ part) ∷ parts
 unfoldable pub lines : Bytes → List Bytes
 lines [] = []
 lines (b ∷ bs) = cond (b == 10) ([] ∷ lines bs) (in_front b (lines bs))
+
+abbrev pub lines_left : Lines → List Bytes
+lines_left s = lines s.rest.now
 
 -- a word ends before a blank and at the end
 abbrev pub word_ends : Bytes → Bool

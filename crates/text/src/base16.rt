@@ -1,34 +1,24 @@
 // Bytes as text of hexadecimal digits, two for each byte, in lower case, and back.
-ghost use Rattle.std.specs.Prelude.{◌≡◌, ◌<◌, IfOk, Ok, string_bytes};
+ghost use Rattle.std.specs.Prelude.{◌≡◌, IfOk, Ok, string_bytes};
 ghost use Rattle.text.specs.declared.base16.HexError.TheVariants.{Memory};
-ghost use Rattle.text.specs.Hex.{UnhexSays, hex_digit, hex_value};
+ghost use Rattle.text.specs.Hex.{UnhexSays, hex_value};
 ghost use Rattle.text.specs.Hex as spec;
 
 use std::alloc::{AllocError, AllocFailed, Global};
-use std::error::Error;
-use std::fmt;
+use thiserror::Error;
 
 // Why a word does not write bytes.
-#[derive(Clone, Copy, PartialEq, Eq, Debug)]
+#[derive(Clone, Copy, PartialEq, Eq, Debug, Error)]
 pub enum HexError {
-    // A digit stands alone.
+    #[error("a hexadecimal digit stands alone")]
     OddLength,
+    #[error("this is not a hexadecimal digit")]
     NotADigit,
+    #[error("there is not enough memory")]
     Memory,
 }
 
-impl fmt::Display for HexError {
-    fn fmt<W: fmt::Write>(&self, f: &mut fmt::Formatter<W>) -> fmt::Result {
-        f.write_str(match self {
-            HexError::OddLength => "a hexadecimal digit stands alone",
-            HexError::NotADigit => "this is not a hexadecimal digit",
-            HexError::Memory => "there is not enough memory",
-        })
-    }
-}
-
-impl Error for HexError {}
-
+// By hand, as a contract tells which error `?` makes.
 impl<T: Drop> From<AllocFailed<T>> for HexError {
     ghost from_gives = { λ _ r. r ≡ Memory };
 
@@ -37,19 +27,7 @@ impl<T: Drop> From<AllocFailed<T>> for HexError {
     }
 }
 
-// The digit that writes a value.
-fn digit(value: u8) -> char
-    requires { value < 16 }
-    ensures { result ≡ hex_digit value }
-{
-    if value < 10 {
-        char::from(b'0' + value)
-    } else {
-        char::from(b'a' + (value - 10))
-    }
-}
-
-// The value that a digit writes.
+// The value that a digit writes; capital letters, which `char::to_digit` reads too, are no digits here.
 fn value(digit: u8) -> Option<u8>
     ensures { result ≡ hex_value digit }
 {
@@ -74,8 +52,7 @@ pub fn hex(heap: Global, bytes: &[u8]) -> Result<String, AllocError>
 {
     let mut text = String::new(heap);
     for byte in bytes {
-        text.push(digit(*byte / 16))?;
-        text.push(digit(*byte % 16))?;
+        write!(text, "{byte:02x}")?;
     }
     Ok(text)
 }

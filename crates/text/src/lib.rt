@@ -5,4 +5,6 @@ mod base16;
 mod read;
 
 pub use base16::{HexError, hex, unhex};
-pub use read::{decimal, first_line, first_word, same, starts_with_digit, uncommented, until_dot};
+pub use read::{
+    Lines, decimal, first_line, first_word, same, starts_with_digit, uncommented, until_dot,
+};

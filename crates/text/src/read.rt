@@ -1,17 +1,9 @@
 // Readers of bytes: lines, words and numbers. A reader answers what it read and what is left.
-ghost use Rattle.std.specs.Prelude.{◌≡◌, ◌<◌, [], ◌∷◌, length, MatchOption, nat_eq, slice_index};
+ghost use Rattle.std.specs.Prelude.{◌≡◌, ℕ, Bool, ◌<◌, [], ◌∷◌, length, MatchOption, nat_eq, slice_index};
+ghost use Rattle.std.specs.Iterator.{YieldsFirstRef, at_most};
 ghost use Rattle.std.specs.Str.{bytes_eq};
-ghost use Rattle.text.specs.Text.{before, digit, from, lines, words, stops};
+ghost use Rattle.text.specs.Text.{Computes, before, digit, from, lines, lines_left, words};
 ghost use Rattle.text.specs.Text as spec;
-
-// Where a part of the text ends.
-#[derive(Clone, Copy)]
-enum Stop {
-    LineEnd,
-    Comment,
-    Blank,
-    Solid,
-}
 
 fn is_blank(byte: u8) -> bool
     ensures { result ≡ spec.blank byte }
@@ -19,29 +11,13 @@ fn is_blank(byte: u8) -> bool
     byte == b' ' || byte == b'\t' || byte == b'\r'
 }
 
-impl Stop {
-    fn holds(self, byte: u8) -> bool
-        ensures { result ≡ stops self byte }
-    {
-        match self {
-            Stop::LineEnd => byte == b'\n',
-            Stop::Comment => byte == b'#',
-            Stop::Blank => is_blank(byte),
-            Stop::Solid => !is_blank(byte),
-        }
-    }
-}
-
 // What stands before the first byte at which to stop, and what stands from it on.
-fn cut(bytes: &[u8], stop: Stop) -> (&[u8], &[u8])
-    ensures front { result.0.now ≡ before (stops stop) bytes.now }
-    ensures back { result.1.now ≡ from (stops stop) bytes.now }
+fn cut<F: Fn(u8) -> bool>(bytes: &[u8], stop: F) -> (&[u8], &[u8])
+    requires { F.IsAlwaysCallable stop }
+    ensures { (p : ℕ → Bool) → Computes (F.post stop) p → (result.0.now ≡ before p bytes.now) × (result.1.now ≡ from p bytes.now) }
 {
-    let mut end = 0;
-    while end < bytes.len() && !stop.holds(bytes[end]) {
-        end += 1;
-    }
-    bytes.split_at(end)
+    let end = bytes.iter().position(|byte| stop(*byte));
+    bytes.split_at(end.unwrap_or(bytes.len()))
 }
 
 // The first line and what follows it, or none where nothing is left.
@@ -52,18 +28,46 @@ pub fn first_line(bytes: &[u8]) -> Option<(&[u8], &[u8])>
     if bytes.is_empty() {
         return None;
     }
-    let (line, end) = cut(bytes, Stop::LineEnd);
+    let (line, end) = cut(bytes, |byte| byte == b'\n');
     let [_, rest @ ..] = end else {
         return Some((line, end));
     };
     Some((line, rest))
 }
 
+// The lines of a text, one after the other.
+#[derive(Drop)]
+pub struct Lines<'a> {
+    rest: &'a [u8],
+}
+
+impl<'a> Lines<'a> {
+    pub fn new(text: &'a [u8]) -> Lines<'a>
+        ensures { lines_left result ≡ lines text.now }
+    {
+        Lines { rest: text }
+    }
+}
+
+impl<'a> Iterator for Lines<'a> {
+    type Item = &'a [u8];
+
+    ghost next_gives = { YieldsFirstRef lines_left };
+
+    ghost remaining = { λ s. at_most (length s.rest.now) };
+
+    fn next(&mut self) -> Option<&'a [u8]> {
+        let (line, rest) = first_line(self.rest)?;
+        self.rest = rest;
+        Some(line)
+    }
+}
+
 // What stands before a comment.
 pub fn uncommented(line: &[u8]) -> &[u8]
     ensures { result.now ≡ before (λ b. nat_eq b 35) line.now }
 {
-    let (said, _) = cut(line, Stop::Comment);
+    let (said, _) = cut(line, |byte| byte == b'#');
     said
 }
 
@@ -72,22 +76,18 @@ pub fn until_dot(word: &[u8]) -> (&[u8], &[u8])
     ensures front { result.0.now ≡ before (λ b. nat_eq b 46) word.now }
     ensures back { result.1.now ≡ from (λ b. nat_eq b 46) word.now }
 {
-    let mut end = 0;
-    while end < word.len() && word[end] != b'.' {
-        end += 1;
-    }
-    word.split_at(end)
+    cut(word, |byte| byte == b'.')
 }
 
 // The first word and what follows it, or none where only blanks are left.
 pub fn first_word(bytes: &[u8]) -> Option<(&[u8], &[u8])>
     ensures { MatchOption result (words bytes.now ≡ []) (λ p. words bytes.now ≡ p.0.now ∷ words p.1.now) }
 {
-    let (_, solid) = cut(bytes, Stop::Solid);
+    let (_, solid) = cut(bytes, |byte| !is_blank(byte));
     if solid.is_empty() {
         return None;
     }
-    Some(cut(solid, Stop::Blank))
+    Some(cut(solid, is_blank))
 }
 
 // Whether a word is this name.
@@ -100,7 +100,7 @@ pub fn same(word: &[u8], name: &[u8]) -> bool
 pub fn starts_with_digit(word: &[u8]) -> bool
     ensures { result ≡ digit (slice_index word.now 0) }
 {
-    !word.is_empty() && word[0].is_ascii_digit()
+    word.first().is_some_and(|byte| byte.is_ascii_digit())
 }
 
 // The number that the digits of a word write, where it is below 2^64.

@@ -8,7 +8,6 @@ use crate::error::{Reason, WireError};
 use hut::{Pending, Text};
 use machine::MACHINES;
 use std::alloc::{AllocError, Global};
-use std::fmt;
 use text::{HexError, decimal, first_word, hex, same, uncommented, unhex};
 
 fn poke(rest: &[u8]) -> Result<Pending, WireError>
@@ -35,21 +34,14 @@ fn text(heap: Global, rest: &[u8]) -> Result<Text, WireError>
         Err(HexError::Memory) => return Err(WireError::Memory),
         Err(error) => return Err(WireError::Refused(Reason::Hex(error))),
     };
-    match Text::new(heap, bytes.as_slice())? {
-        Some(text) => Ok(text),
-        None => Err(WireError::Refused(Reason::TooLong)),
-    }
+    Ok(Text::new(heap, bytes.as_slice())?.ok_or(Reason::TooLong)?)
 }
 
 fn letter(heap: Global, rest: &[u8]) -> Result<Pending, WireError>
     ensures { Says (letter_of (words rest.now)) result }
 {
-    let Some((number, after)) = first_word(rest) else {
-        return Err(WireError::Refused(Reason::MissingNumber));
-    };
-    let Some(sender) = decimal(number) else {
-        return Err(WireError::Refused(Reason::NotANumber));
-    };
+    let (number, after) = first_word(rest).ok_or(Reason::MissingNumber)?;
+    let sender = decimal(number).ok_or(Reason::NotANumber)?;
     if sender >= MACHINES {
         return Err(WireError::Refused(Reason::NoSuchMachine));
     }

@@ -1,6 +1,6 @@
-use Rattle.std.proofs.Common.{◌≡◌, ℕ, ◌<◌, ◌++◌, get_or, drop, string_bytes}
+use Rattle.std.proofs.Common.{◌≡◌, ◌++◌, drop, string_bytes}
 use Rattle.text.specs.Hex.{hex}
 use Rattle.text.proofs.base16.hex.Given as goal
 
 abbrev pub invariant-loop-byte : goal.invariant-loop-byte
-invariant-loop-byte l = (string_bytes l.text ++ hex (drop l.byte-index l.bytes) ≡ hex l.bytes) × ((k : ℕ) → k < l.byte-index → get_or l.bytes k 0 < 256)
+invariant-loop-byte l = string_bytes l.text ++ hex (drop l.byte-index l.bytes) ≡ hex l.bytes
