@@ -8,8 +8,7 @@ ghost use Rattle.play.specs.declared.course.StrikeError.TheVariants.{Memory};
 use machine::MACHINES;
 use river::Item;
 use std::alloc::{AllocError, AllocFailed, Global};
-use std::error::Error;
-use std::fmt;
+use thiserror::Error;
 
 // Each machine is poked and works.
 fn add_pokes(items: &mut Vec<Item>, acts: u64) -> Result<(), AllocError>
@@ -75,25 +74,15 @@ pub fn plain(heap: Global, items: &[Item]) -> Result<Vec<Item>, AllocError>
     Ok(out)
 }
 
-#[derive(Clone, Copy, PartialEq, Eq, Debug)]
+#[derive(Clone, Copy, PartialEq, Eq, Debug, Error)]
 pub enum StrikeError {
-    // No machine is to work there.
+    #[error("no machine works there, so none is struck")]
     NotWorks,
+    #[error("there is not enough memory")]
     Memory,
 }
 
-impl fmt::Display for StrikeError {
-    fn fmt<W: fmt::Write>(&self, f: &mut fmt::Formatter<W>) -> fmt::Result {
-        let text = match self {
-            StrikeError::NotWorks => "no machine works there, so none is struck",
-            StrikeError::Memory => "there is not enough memory",
-        };
-        write!(f, "{text}")
-    }
-}
-
-impl Error for StrikeError {}
-
+// By hand, as a clause names the error that `?` makes.
 impl From<AllocError> for StrikeError {
     ghost from_gives = { λ _ r. r ≡ Memory };
 
@@ -122,6 +111,7 @@ pub fn struck(
     if k >= items.len() {
         return Err(StrikeError::NotWorks);
     }
+    // The `else` of one pattern over `get` would not know that no machine works there.
     let Item::Works(machine, _) = items[k] else {
         return Err(StrikeError::NotWorks);
     };

@@ -36,7 +36,7 @@ pub fn told_again(heap: Global, told: &[Row]) -> Result<u64, AllocError>
     let mut seen = BTreeSet::new(heap);
     let mut again: u64 = 0;
     for row in told {
-        if !seen.insert((row.hour, row.place))? {
+        if !seen.insert(row.key())? {
             again += 1;
         }
     }

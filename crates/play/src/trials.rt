@@ -70,31 +70,10 @@ impl Score {
 pub fn count_readings(gauges: &[Vec<Reading>]) -> u64
     ensures { result ≡ readings_after 0 (as_gauges gauges.now) }
 {
-    let mut readings: u64 = 0;
-    for gauge in gauges {
-        readings = readings.saturating_add(gauge.len() as u64);
-    }
-    readings
-}
-
-// The score of a world that was played and judged.
-fn score_of(
-    heap: Global,
-    gauges: &[Vec<Reading>],
-    world: &World,
-    judgement: &Judgement,
-) -> Result<Score, WallError>
-    ensures { (wrong : judgement.now.comparison.wrong ≡ wrong_rows (as_gauges gauges.now) (as_world world.now).told) (untold : JustWhen (vec_len judgement.now.comparison.untold ≡ 0) (all_told (as_gauges gauges.now) (as_world world.now).told ≡ true)) → IfOk result (λ s. Scores (as_gauges gauges.now) (as_world world.now) s) }
-{
-    Ok(Score {
-        worlds: 1,
-        readings: count_readings(gauges),
-        told: world.told.len() as u64,
-        again: told_again(heap, world.told.as_slice())?,
-        wrong: judgement.comparison.wrong,
-        untold: judgement.comparison.untold.len() as u64,
-        faults: u64::from(world.fault),
-    })
+    gauges.iter().fold(
+        0,
+        |readings: u64, gauge| readings.saturating_add(gauge.len() as u64),
+    )
 }
 
 // What came of a river.
@@ -104,6 +83,27 @@ pub struct Outcome {
     pub score: Score,
 }
 
+// What came of a world that was played.
+fn outcome_of(heap: Global, gauges: &[Vec<Reading>], world: &World) -> Result<Outcome, WallError>
+    ensures verdict { IfOk result (λ t. t.verdict ≡ verdict_of (as_gauges gauges.now) (as_world world.now)) }
+    ensures score { IfOk result (λ t. Scores (as_gauges gauges.now) (as_world world.now) t.score) }
+{
+    let Judgement {
+        verdict,
+        comparison,
+    } = judge(heap, gauges, world)?;
+    let score = Score {
+        worlds: 1,
+        readings: count_readings(gauges),
+        told: world.told.len() as u64,
+        again: told_again(heap, world.told.as_slice())?,
+        wrong: comparison.wrong,
+        untold: comparison.untold.len() as u64,
+        faults: u64::from(world.fault),
+    };
+    Ok(Outcome { verdict, score })
+}
+
 // The river played from the start and judged. Where only the first gauge has readings, nothing is at fault and no row is wrong.
 pub fn trial(heap: Global, gauges: &[Vec<Reading>], items: &[Item]) -> Result<Outcome, WallError>
     ensures verdict { IfOk result (λ t. t.verdict ≡ verdict_of (as_gauges gauges.now) (played (as_gauges gauges.now) items.now)) }
@@ -111,10 +111,5 @@ pub fn trial(heap: Global, gauges: &[Vec<Reading>], items: &[Item]) -> Result<Ou
     ensures score { IfOk result (λ t. Scores (as_gauges gauges.now) (played (as_gauges gauges.now) items.now) t.score) }
 {
     let world = play(heap, gauges, items)?;
-    let judgement = judge(heap, gauges, &world)?;
-    let score = score_of(heap, gauges, &world, &judgement)?;
-    Ok(Outcome {
-        verdict: judgement.verdict,
-        score,
-    })
+    outcome_of(heap, gauges, &world)
 }

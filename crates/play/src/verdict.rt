@@ -23,25 +23,16 @@ pub enum Verdict {
     Right,
 }
 
-impl Verdict {
-    fn text(self) -> &'static str
-        ensures { result.now ≡ said_of self }
-    {
-        match self {
-            Verdict::Fault => "a machine is at fault",
-            Verdict::Wrong => "what is told is wrong",
-            Verdict::Untold => "what is told is right, and not all is told",
-            Verdict::Right => "what is told is right, and all is told",
-        }
-    }
-}
-
 impl fmt::Display for Verdict {
     ghost output = { λ v. Some (said_of v) };
 
     fn fmt<W: fmt::Write>(&self, f: &mut fmt::Formatter<W>) -> fmt::Result {
-        let text = self.text();
-        write!(f, "{text}")
+        f.write_str(match self {
+            Verdict::Fault => "a machine is at fault",
+            Verdict::Wrong => "what is told is wrong",
+            Verdict::Untold => "what is told is right, and not all is told",
+            Verdict::Right => "what is told is right, and all is told",
+        })
     }
 }
 

@@ -1,6 +1,6 @@
 // A river struck after every act, once or twice in a row.
 use crate::progress::Progress;
-use anyhow::anyhow;
+use crate::score;
 use play::{Score, Verdict};
 use player_args::Strokes;
 use river::{Item, River};
@@ -69,15 +69,6 @@ impl<'a> Target<'a> {
     }
 }
 
-// How many acts the machines do in all.
-fn total(acts: &[u64]) -> u64 {
-    let mut total: u64 = 0;
-    for acts in acts {
-        total = total.saturating_add(*acts);
-    }
-    total
-}
-
 pub fn strike_all<'a>(
     rt: &'a HostRuntime,
     river: &'a River,
@@ -87,7 +78,9 @@ pub fn strike_all<'a>(
     let gauges = river.gauges.as_slice();
     let items = play::plain(heap, river.items.as_slice())?;
     let acts = play::acts_of(heap, gauges, items.as_slice())?;
-    let of = total(acts.as_slice());
+    let of = acts
+        .iter()
+        .fold(0, |sum: u64, acts| sum.saturating_add(*acts));
     let target = Target {
         rt,
         gauges,
@@ -106,21 +99,17 @@ pub fn strike_all<'a>(
             progress.show(rt, struck, of, "acts struck")?;
         }
     }
-    summary(rt, score)
-}
-
-fn summary(rt: &HostRuntime, score: Score) -> anyhow::Result<()> {
-    let walls = score.worlds;
-    let told = score.told;
-    let again = score.again;
-    let wrong = score.wrong;
-    let untold = score.untold;
-    let faults = score.faults;
-    println!(rt;
-        "{walls} walls, {told} rows told, {again} told again, {wrong} wrong, {untold} untold, {faults} faults"
-    )?;
-    if !score.is_right() {
-        return Err(anyhow!("not every stroke was played right to the end"));
-    }
-    Ok(())
+    let Score {
+        worlds,
+        told,
+        again,
+        ..
+    } = score;
+    let counted = format_args!("{worlds} walls, {told} rows told, {again} told again");
+    score::print(
+        rt,
+        &counted,
+        score,
+        "not every stroke was played right to the end",
+    )
 }

@@ -4,6 +4,7 @@
 mod lightning;
 mod many;
 mod progress;
+mod score;
 mod stats;
 
 use anyhow::anyhow;
@@ -26,42 +27,35 @@ fn main(rt: HostRuntime) -> ExitCode {
 }
 
 fn run(rt: &HostRuntime) -> anyhow::Result<()> {
-    let mut words = Vec::new(rt.alloc());
-    let mut all = env::args(rt)?;
-    let _program = all.next();
-    for word in all {
-        words.push(word)?;
-    }
-    match player_args::command_of(rt.alloc(), words.as_slice())? {
+    let heap = rt.alloc();
+    let words: Vec<String> = env::args(rt)?.skip(1).collect(heap)?;
+    match player_args::command_of(heap, words.as_slice())? {
         Command::Help => {
             let usage = player_args::USAGE;
             println!(rt; "{usage}")?;
             Ok(())
         }
-        Command::Play { file, stats } => play_file(rt, &file, stats),
+        Command::Play { file, stats } => play_file(rt, file.as_str(), stats),
         Command::Random { seed, rivers } => many::play_all(rt, seed, rivers),
         Command::Strike { file, strokes } => {
-            lightning::strike_all(rt, &read_river(rt, &file)?, strokes)
+            lightning::strike_all(rt, &read_river(rt, file.as_str())?, strokes)
         }
-        Command::Sums { file } => print_sums(rt, &file),
+        Command::Sums { file } => print_sums(rt, file.as_str()),
     }
 }
 
 // The text of the file that is named, or standard input.
-fn read(rt: &HostRuntime, file: &String) -> anyhow::Result<String> {
-    if file.as_str() == "-" {
+fn read(rt: &HostRuntime, file: &str) -> anyhow::Result<String> {
+    if file == "-" {
         let mut text = String::new(rt.alloc());
         rt.stdin().read_to_string(&mut text)?;
         return Ok(text);
     }
-    match fs::read_to_string(rt, file.as_str()) {
-        Ok(text) => Ok(text),
-        Err(error) => Err(anyhow!(format!(in rt.alloc(); "{file} cannot be read: {error}")?)),
-    }
+    fs::read_to_string(rt, file).map_err(|error| anyhow!("{file} cannot be read: {error}"))
 }
 
 // The river of a file, of which the machines are right.
-fn read_river(rt: &HostRuntime, file: &String) -> anyhow::Result<River> {
+fn read_river(rt: &HostRuntime, file: &str) -> anyhow::Result<River> {
     let text = read(rt, file)?;
     let river = river::parse(rt.alloc(), text.as_str())?;
     scope::first_alone(river.gauges.as_slice())?;
@@ -69,7 +63,7 @@ fn read_river(rt: &HostRuntime, file: &String) -> anyhow::Result<River> {
 }
 
 // Prints what is to be told: all that an empty wall leaves untold.
-fn print_sums(rt: &HostRuntime, file: &String) -> anyhow::Result<()> {
+fn print_sums(rt: &HostRuntime, file: &str) -> anyhow::Result<()> {
     let heap = rt.alloc();
     let text = read(rt, file)?;
     let river = river::parse(heap, text.as_str())?;
@@ -96,7 +90,7 @@ fn play_and_print(rt: &HostRuntime, river: &River) -> anyhow::Result<World> {
 }
 
 // With figures, the river is played whole before its rows are printed, so that the steps alone are timed.
-fn play_file(rt: &HostRuntime, file: &String, stats: bool) -> anyhow::Result<()> {
+fn play_file(rt: &HostRuntime, file: &str, stats: bool) -> anyhow::Result<()> {
     let river = read_river(rt, file)?;
     if !stats {
         let world = play_and_print(rt, &river)?;

@@ -1,6 +1,6 @@
 // Rivers made at random, one after the other.
 use crate::progress::Progress;
-use anyhow::anyhow;
+use crate::score;
 use play::{Score, Verdict};
 
 // Plays the river of a seed; one that is not right, or not told to its end, is printed whole.
@@ -25,21 +25,17 @@ pub fn play_all(rt: &HostRuntime, first: u64, rivers: u64) -> anyhow::Result<()>
         score = score.plus(play_one(rt, first.wrapping_add(n))?);
         progress.show(rt, score.worlds, rivers, "rivers")?;
     }
-    summary(rt, score)
-}
-
-fn summary(rt: &HostRuntime, score: Score) -> anyhow::Result<()> {
-    let rivers = score.worlds;
-    let readings = score.readings;
-    let told = score.told;
-    let wrong = score.wrong;
-    let untold = score.untold;
-    let faults = score.faults;
-    println!(rt;
-        "{rivers} rivers, {readings} readings, {told} rows told, {wrong} wrong, {untold} untold, {faults} faults"
-    )?;
-    if !score.is_right() {
-        return Err(anyhow!("not every river was played right to its end"));
-    }
-    Ok(())
+    let Score {
+        worlds,
+        readings,
+        told,
+        ..
+    } = score;
+    let counted = format_args!("{worlds} rivers, {readings} readings, {told} rows told");
+    score::print(
+        rt,
+        &counted,
+        score,
+        "not every river was played right to its end",
+    )
 }

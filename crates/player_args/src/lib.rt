@@ -4,6 +4,7 @@
 use std::alloc::{AllocError, Global};
 use std::error::Error;
 use std::fmt;
+use std::str::FromStr;
 
 pub const USAGE: &str = "usage: player COMMAND
 
@@ -45,9 +46,10 @@ pub enum ArgsError {
     Memory,
 }
 
-impl ArgsError {
-    fn text(self) -> &'static str {
-        match self {
+// By hand, as all of them end alike.
+impl fmt::Display for ArgsError {
+    fn fmt<W: fmt::Write>(&self, f: &mut fmt::Formatter<W>) -> fmt::Result {
+        let text = match self {
             ArgsError::NoFile => "the file of the river is missing",
             ArgsError::NoSeed => "the seed is missing",
             ArgsError::NoRivers => "the number of rivers is missing",
@@ -57,13 +59,7 @@ impl ArgsError {
             ArgsError::NotOneOrTwo => "a machine is struck 1 or 2 times in a row",
             ArgsError::TooManyWords => "there is a word too many",
             ArgsError::Memory => "there is not enough memory",
-        }
-    }
-}
-
-impl fmt::Display for ArgsError {
-    fn fmt<W: fmt::Write>(&self, f: &mut fmt::Formatter<W>) -> fmt::Result {
-        let text = self.text();
+        };
         write!(f, "{text}; `player --help` says how it is used")
     }
 }
@@ -76,20 +72,28 @@ impl From<AllocError> for ArgsError {
     }
 }
 
-fn play_command(words: &[String]) -> Result<Command, ArgsError> {
-    match words {
-        [] => Err(ArgsError::NoFile),
-        [file] => Ok(Command::Play {
-            file: file.clone()?,
-            stats: false,
-        }),
-        [file, option] if option.as_str() == "--stats" => Ok(Command::Play {
-            file: file.clone()?,
-            stats: true,
-        }),
-        [_, _] => Err(ArgsError::UnknownOption),
-        _ => Err(ArgsError::TooManyWords),
+impl FromStr for Strokes {
+    type Err = ArgsError;
+
+    fn from_str(word: &str) -> Result<Strokes, ArgsError> {
+        match word {
+            "1" => Ok(Strokes::One),
+            "2" => Ok(Strokes::Two),
+            _ => Err(ArgsError::NotOneOrTwo),
+        }
     }
+}
+
+fn play_command(words: &[String]) -> Result<Command, ArgsError> {
+    let (file, rest) = words.split_first().ok_or(ArgsError::NoFile)?;
+    let stats = match rest {
+        [] => false,
+        [option] if option.as_str() == "--stats" => true,
+        [_] => return Err(ArgsError::UnknownOption),
+        _ => return Err(ArgsError::TooManyWords),
+    };
+    let file = file.clone()?;
+    Ok(Command::Play { file, stats })
 }
 
 fn random_command(words: &[String]) -> Result<Command, ArgsError> {
@@ -100,36 +104,23 @@ fn random_command(words: &[String]) -> Result<Command, ArgsError> {
             _ => ArgsError::TooManyWords,
         });
     };
-    let Ok(seed) = seed.as_str().parse::<u64>() else {
-        return Err(ArgsError::SeedNoNumber);
-    };
-    let Ok(rivers) = rivers.as_str().parse::<u64>() else {
-        return Err(ArgsError::RiversNoNumber);
-    };
+    let seed = seed.as_str().parse().map_err(|_| ArgsError::SeedNoNumber)?;
+    let rivers = rivers
+        .as_str()
+        .parse()
+        .map_err(|_| ArgsError::RiversNoNumber)?;
     Ok(Command::Random { seed, rivers })
 }
 
-fn strokes_of(word: &str) -> Result<Strokes, ArgsError> {
-    match word {
-        "1" => Ok(Strokes::One),
-        "2" => Ok(Strokes::Two),
-        _ => Err(ArgsError::NotOneOrTwo),
-    }
-}
-
 fn strike_command(words: &[String]) -> Result<Command, ArgsError> {
-    match words {
-        [] => Err(ArgsError::NoFile),
-        [file] => Ok(Command::Strike {
-            file: file.clone()?,
-            strokes: Strokes::One,
-        }),
-        [file, count] => Ok(Command::Strike {
-            file: file.clone()?,
-            strokes: strokes_of(count.as_str())?,
-        }),
-        _ => Err(ArgsError::TooManyWords),
-    }
+    let (file, rest) = words.split_first().ok_or(ArgsError::NoFile)?;
+    let strokes = match rest {
+        [] => Strokes::One,
+        [count] => count.as_str().parse()?,
+        _ => return Err(ArgsError::TooManyWords),
+    };
+    let file = file.clone()?;
+    Ok(Command::Strike { file, strokes })
 }
 
 fn sums_command(words: &[String]) -> Result<Command, ArgsError> {

@@ -1,7 +1,8 @@
 -- Only the first gauge has readings just where no other is named.
-use Rattle.std.proofs.Common.{◌≡◌, ℕ, ◌+◌, ◌<◌, ◌≤◌, Bool, true, false, cond, eqb, List, [], ◌∷◌, length, get_or, drop, Ok, Err, vec_items, vec_len, Result, Vec, sym, refl, ap, ◌∙◌}
+use Rattle.std.proofs.Common.{◌≡◌, ℕ, ◌+◌, Bool, true, false, cond, eqb, List, [], ◌∷◌, length, drop, Some, None, Ok, Err, not, Option, vec_items, vec_len, Result, Vec, sym, refl, ap, ◌∙◌}
 use lib.Dec.{eqb-suc-zero}
-use Rattle.std.proofs.lemmas.List.{drop_more, drop_all}
+use Rattle.std.specs.List.{find, enumerate_from}
+use Rattle.std.specs.Option.{option_map}
 use Rattle.sums.specs.Sums.{Gauges, none_of, every, each}
 use Rattle.sums.specs.Readings.{as_row, as_gauges}
 use Rattle.sums.specs.declared.reading.Reading.{Reading}
@@ -29,20 +30,32 @@ unfolding none_of each
 row_none [] n e = ap (λ k. eqb k 0) (sym e)
 row_none (r ∷ rs) n e = sym (eqb-suc-zero (length rs)) ∙ ap (λ k. eqb k 0) (sym e)
 
--- what is found of the rows from n on, by whether that of gauge n is empty
-pub quiet_step : {Z : Type 0} (gs : List (Vec Reading Z)) (n : ℕ) (v : Vec Reading Z) → v ≡ get_or gs n v → n < length gs →
-    quiet_from n (as_gauges (drop n gs)) ≡ cond (eqb (vec_len v) 0) (quiet_from (n + 1) (as_gauges (drop (n + 1) gs))) (Err (record { number = n }))
-unfolding quiet_from each
-quiet_step gs n v e lt =
-    ap (λ l. quiet_from n (as_gauges l)) (drop_more gs n v lt ∙ ap (λ x. x ∷ drop (n + 1) gs) (sym e))
-    ∙ ap (λ b. cond b (quiet_from (n + 1) (as_gauges (drop (n + 1) gs))) (Err (record { number = n }))) (row_none (vec_items v) (vec_len v) v.ok.0)
+-- the answer, by the first gauge with readings and its number
+abbrev pub said : {A : Type 0} → Option (ℕ × A) → Result (Unit {0}) OtherGauge
+said None = Ok tt
+said (Some p) = Err (record { number = p.0 })
 
-pub quiet_end : {Z : Type 0} (gs : List (Vec Reading Z)) (n : ℕ) → length gs ≤ n → quiet_from n (as_gauges (drop n gs)) ≡ Ok tt
-unfolding quiet_from each
-quiet_end gs n le = ap (λ l. quiet_from n (as_gauges l)) (drop_all n gs le)
+-- whether the gauge beside this number has readings
+abbrev pub speaks : {Z : Type 0} → ℕ × Vec Reading Z → Bool
+speaks p = not (eqb (vec_len p.1) 0)
 
--- the first row does not matter
-pub quiet_first : {Z : Type 0} (gs : List (Vec Reading Z)) → alone (as_gauges gs) ≡ quiet_from 1 (as_gauges (drop 1 gs))
+found_quiet : {Z : Type 0} (n : ℕ) (gs : List (Vec Reading Z)) → quiet_from n (as_gauges gs) ≡ said (find speaks (enumerate_from n gs))
 unfolding quiet_from each
-quiet_first [] = refl
-quiet_first (v ∷ gs) = refl
+found_quiet n [] = refl
+found_quiet n (v ∷ gs) = go (eqb (vec_len v) 0) (row_none (vec_items v) (vec_len v) v.ok.0) (found_quiet (n + 1) gs)
+  where
+    go : (b : Bool) → none_of (as_row (vec_items v)) ≡ b → quiet_from (n + 1) (as_gauges gs) ≡ said (find speaks (enumerate_from (n + 1) gs)) →
+        cond (none_of (as_row (vec_items v))) (quiet_from (n + 1) (as_gauges gs)) (Err (record { number = n }))
+        ≡ said (cond (not b) (Some (n, v)) (find speaks (enumerate_from (n + 1) gs)))
+    go true e next = ap (λ c. cond c (quiet_from (n + 1) (as_gauges gs)) (Err (record { number = n }))) e ∙ next
+    go false e next = ap (λ c. cond c (quiet_from (n + 1) (as_gauges gs)) (Err (record { number = n }))) e
+
+-- the first gauge does not matter
+pub found_alone : {Z : Type 0} (gs : List (Vec Reading Z)) → alone (as_gauges gs) ≡ said (find speaks (drop 1 (enumerate_from 0 gs)))
+unfolding quiet_from each
+found_alone [] = refl
+found_alone (v ∷ gs) = found_quiet 1 gs
+
+pub said_map : {A B : Type 0} (f : A → B) (o : Option (ℕ × A)) → said o ≡ said (option_map (λ p. (p.0, f p.1)) o)
+said_map f None = refl
+said_map f (Some p) = refl

@@ -6,27 +6,15 @@ ghost use Rattle.sums.specs.Readings.{as_gauges};
 ghost use Rattle.promise.specs.Promise.{core};
 ghost use Rattle.scope.specs.Others.{alone};
 
-use std::error::Error;
-use std::fmt;
 use sums::Reading;
+use thiserror::Error;
 
 // A gauge behind the first that has readings.
-#[derive(Clone, Copy, PartialEq, Eq, Debug)]
+#[derive(Clone, Copy, PartialEq, Eq, Debug, Error)]
+#[error("gauge {number} has readings, and only those of gauge 0 are added up so far")]
 pub struct OtherGauge {
     pub number: usize,
 }
-
-impl fmt::Display for OtherGauge {
-    fn fmt<W: fmt::Write>(&self, f: &mut fmt::Formatter<W>) -> fmt::Result {
-        let number = self.number;
-        write!(
-            f,
-            "gauge {number} has readings, and only those of gauge 0 are added up so far"
-        )
-    }
-}
-
-impl Error for OtherGauge {}
 
 // Refuses rows of gauges of which one behind the first has readings, and names the first such.
 pub fn first_alone(gauges: &[Vec<Reading>]) -> Result<(), OtherGauge>
@@ -34,19 +22,17 @@ pub fn first_alone(gauges: &[Vec<Reading>]) -> Result<(), OtherGauge>
     ensures core { OnOk result (core (as_gauges gauges.now) ≡ true) }
     ensures other { OnErr result (core (as_gauges gauges.now) ≡ false) }
 {
-    for number in 1..gauges.len() {
-        if !gauges[number].is_empty() {
-            return Err(OtherGauge { number });
-        }
+    let mut others = gauges.iter().enumerate().skip(1);
+    match others.find(|(_, gauge)| !gauge.is_empty()) {
+        Some((number, _)) => Err(OtherGauge { number }),
+        None => Ok(()),
     }
-    Ok(())
 }
 
 #[cfg(test)]
 mod tests {
     use crate::{OtherGauge, first_alone};
     use river::parse;
-    use std::fmt;
     use std::test::Fail;
 
     #[test]

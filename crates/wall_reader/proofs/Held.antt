@@ -9,8 +9,8 @@ use Rattle.std.proofs.lemmas.Map.Entries.{btree_map_get_place}
 use Rattle.std.proofs.lemmas.Bool.{eqb-true, eq-eqb, and_parts, and_from, true≢false}
 use Rattle.sums.specs.Sums.{any, every, each, or, ToldSum}
 use Rattle.sums.proofs.Everys.{or_true, every_places}
-use Rattle.rows.specs.Walls.{row_of, rows_of, in_order}
-use Rattle.rows.proofs.Summed.{pair_cmp, any_append, key_tied, put_tied}
+use Rattle.rows.specs.Walls.{row_of, rows_of, in_order, pair_cmp}
+use Rattle.rows.proofs.Summed.{any_append, key_tied, put_tied}
 use Rattle.rows.proofs.Compared.{every_each, rows_order}
 use Rattle.wall_reader.specs.Reads.{same_row, stands, agrees, Holds}
 

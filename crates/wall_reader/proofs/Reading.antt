@@ -2,12 +2,11 @@
 use Rattle.std.proofs.Common.{◌≡◌, ℕ, ◌+◌, ◌-◌, ◌<◌, ◌≤◌, true, List, [], ◌∷◌, ◌++◌, length, get_or, take, drop, is_ok, Ok, Err, Result, Vec, sym, refl, ap, ◌∙◌, subst, arith, length-drop}
 use Rattle.std.specs.BTreeMap.{BTreeMap}
 use Rattle.std.specs.BTreeMap.{IsOrdered}
-use Rattle.rows.proofs.Summed.{pair_cmp}
 use Rattle.std.proofs.lemmas.List.{drop_more, take_more, take_all}
 use Rattle.sums.specs.Sums.{every, ToldSum}
 use Rattle.sums.proofs.Everys.{every_last}
 use Rattle.rows.specs.declared.Row.{Row}
-use Rattle.rows.specs.Walls.{as_told, rows_of}
+use Rattle.rows.specs.Walls.{as_told, rows_of, pair_cmp}
 use Rattle.text.specs.Text.{Bytes, lines}
 use Rattle.wall_reader.specs.declared.mistake.Reason.{Reason}
 use Rattle.wall_reader.specs.declared.mistake.WallMistake.{WallMistake}

@@ -4,13 +4,12 @@ use Rattle.std.specs.BTreeMap.{BTreeMap}
 use Rattle.std.specs.BTreeMap.{IsOrdered, get}
 use Rattle.sums.specs.Sums.{any, every, or, ToldSum}
 use Rattle.rows.specs.declared.Row.{Row}
-use Rattle.rows.specs.Walls.{as_told, as_wall, in_order, JustWhen}
+use Rattle.rows.specs.Walls.{as_told, as_wall, in_order, pair_cmp, JustWhen}
 use Rattle.text.specs.Text.{Bytes, lines}
 use Rattle.wall_reader.specs.declared.mistake.Reason.{Reason}
 use Rattle.wall_reader.specs.declared.mistake.WallMistake.{WallMistake}
 use Rattle.wall_reader.specs.declared.mistake.WallMistake.TheVariants.{Line, Contradiction, Memory}
 use Rattle.wall_reader.specs.Lines.{row_on}
-use Rattle.std.specs.Ordering.{nat_cmp, ordering_then}
 
 abbrev pub same_row : ToldSum → ToldSum → Bool
 same_row t u = t.hour == u.hour && (t.place == u.place && t.sum == u.sum)
@@ -72,8 +71,8 @@ ReadSays text (Err Memory) = Unit {0}
 
 -- the map is in order, and has just the rows that stand among these
 pub record Holds (ts : List ToldSum) (m : BTreeMap (ℕ × ℕ) ℕ) : Type 0 where
-  pub ordered : IsOrdered (λ x y. ordering_then (nat_cmp x.0 y.0) (nat_cmp x.1 y.1)) m
-  pub right : (h k s : ℕ) → JustWhen (get (λ x y. ordering_then (nat_cmp x.0 y.0) (nat_cmp x.1 y.1)) m (h, k) ≡ Some s) (stands ts (record { hour = h; place = k; sum = s }) ≡ true)
+  pub ordered : IsOrdered pair_cmp m
+  pub right : (h k s : ℕ) → JustWhen (get pair_cmp m (h, k) ≡ Some s) (stands ts (record { hour = h; place = k; sum = s }) ≡ true)
 
 -- the map n has one row more than the map m
 abbrev pub RowMore : Row → (m n : BTreeMap (ℕ × ℕ) ℕ) → Type 0

@@ -1,30 +1,29 @@
-use Rattle.std.proofs.Common.{◌+◌, cond, drop, Err, sym, ap, ◌∙◌}
+use Rattle.std.proofs.Common.{◌≡◌, sym, ap, ◌∙◌, rules, tests}
+use Rattle.std.proofs.lemmas.Iterator.{YieldsList-from_slice}
+use Rattle.std.proofs.lemmas.Iterator.Adapters.{YieldsList-from_skip}
+use Rattle.std.proofs.lemmas.Iterator.Consumers.{YieldsList-from_enumerate}
+use Rattle.std.proofs.lemmas.Iterator.Search.{find_from_yields_List}
 use Rattle.sums.specs.Readings.{as_gauges}
-use Rattle.scope.specs.Others.{quiet_from}
-use Rattle.scope.proofs.Quiet.{okay, core_alone, quiet_step, quiet_end, quiet_first}
+use Rattle.scope.specs.Others.{alone}
+use Rattle.scope.proofs.Quiet.{okay, core_alone, said, speaks, said_map, found_alone}
 use Rattle.scope.proofs.first_alone.Goals as goal
+use Rattle.scope.proofs.first_alone.Goals.{After-find}
 
-pub loop-number-init : goal.loop-number-init
-loop-number-init c = quiet_first c.args.gauges.now
+-- the answer by what is found
+found : (c : After-find) → alone (as_gauges c.args.gauges.now) ≡ said c.find.result
+found c =
+    let others = YieldsList-from_skip 1 (YieldsList-from_enumerate (YieldsList-from_slice c.args.gauges.now cc) cc) cc in
+    found_alone c.args.gauges.now ∙ ap said (sym (find_from_yields_List speaks _ _ c.find.result c.find.ensures.ran others (λ x b q k. search (rules, tests))))
+    ∙ sym (said_map (λ v. v.now) c.find.result)
 
-pub returns-then-not-is_empty : goal.returns-then-not-is_empty
-returns-then-not-is_empty c =
-    let gs = c.args.gauges.now in
-    let n = c.loop-number.number in
-    let found =
-    c.loop-number.invariant ∙ quiet_step gs n c.index-gauges-number.result c.index-gauges-number.is c.loop-number-test.true
-    ∙ ap (λ b. cond b (quiet_from (n + 1) (as_gauges (drop (n + 1) gs))) (Err (record { number = n }))) (sym c.if-not-is_empty.ensures) in
-    record { told = sym found; core = tt; other = core_alone (as_gauges gs) ∙ ap okay found }
+pub returns-in-Some-clause-told : goal.returns-in-Some-clause-told
+returns-in-Some-clause-told c = sym (found (goal.at.returns-in-Some-clause-told c).After-find ∙ ap said c.in-Some.is)
 
-pub loop-number-preserved : goal.loop-number-preserved
-loop-number-preserved c =
-    let gs = c.args.gauges.now in
-    let n = c.loop-number.number in
-    c.loop-number.invariant ∙ quiet_step gs n c.index-gauges-number.result c.index-gauges-number.is c.loop-number-test.true
-    ∙ ap (λ b. cond b (quiet_from (n + 1) (as_gauges (drop (n + 1) gs))) (Err (record { number = n }))) (sym c.if-not-is_empty.ensures)
+pub returns-in-Some-clause-other : goal.returns-in-Some-clause-other
+returns-in-Some-clause-other c = core_alone (as_gauges c.args.gauges.now) ∙ ap okay (found (goal.at.returns-in-Some-clause-other c).After-find ∙ ap said c.in-Some.is)
 
-pub returns : goal.returns
-returns c =
-    let gs = c.args.gauges.now in
-    let none = c.loop-number.invariant ∙ quiet_end gs c.loop-number.number c.loop-number-test.false in
-    record { told = sym none; core = core_alone (as_gauges gs) ∙ ap okay none; other = tt }
+pub returns-in-None-clause-told : goal.returns-in-None-clause-told
+returns-in-None-clause-told c = sym (found (goal.at.returns-in-None-clause-told c).After-find ∙ ap said c.in-None.is)
+
+pub returns-in-None-clause-core : goal.returns-in-None-clause-core
+returns-in-None-clause-core c = core_alone (as_gauges c.args.gauges.now) ∙ ap okay (found (goal.at.returns-in-None-clause-core c).After-find ∙ ap said c.in-None.is)

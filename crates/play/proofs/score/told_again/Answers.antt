@@ -1,8 +1,9 @@
 use Rattle.std.proofs.Common.{◌≡◌, ◌+◌, ◌≤◌, not, get_or, take, drop, sym, ap, ◌∙◌, subst, ap₂, add-zero, zero-add, arith}
 use Rattle.std.proofs.Math.Bool.{not-not}
+use Rattle.std.specs.BTreeSet.{contains}
 use Rattle.std.proofs.lemmas.List.{drop_all, drop_more}
 use Rattle.sums.specs.Sums.{pick, each}
-use Rattle.rows.specs.Walls.{as_told, as_wall, Marks}
+use Rattle.rows.specs.Walls.{as_told, as_wall, pair_cmp, Marks}
 use Rattle.rows.specs.declared.Row.{Row}
 use Rattle.rows.proofs.Walls.{wall_take, no_marks, marked}
 use Rattle.play.specs.Scores.{again_after, told_again}
@@ -27,7 +28,7 @@ loop-row-preserved c =
     let rest = as_wall (drop (i + 1) rows) in
     let old = c.loop-row.invariant.0 in
     let more = wall_take rows i none c.loop-row-test.true in
-    let found = ap not c.in_ok-insert.ensures.added ∙ not-not _ ∙ old.right row.hour row.place in
+    let found = ap not c.in_ok-insert.ensures.added ∙ not-not _ ∙ ap (contains pair_cmp c.loop-row.seen) c.key.ensures ∙ old.right row.hour row.place in
     let counted : c.if-not-branch.again ≡ c.loop-row.again + pick (not new) 1 0 =
     elim c.if-not-branch.branch [
       | then-not-branch w ↦ w.again-is ∙ ap (λ b. c.loop-row.again + pick (not b) 1 0) (sym w.if-not-branch.true)
@@ -39,7 +40,7 @@ loop-row-preserved c =
       | else-not-branch w ↦ omega (arith, w.again-is, c.loop-row.invariant.1)
     ] in
     let here = ap (λ l. c.loop-row.again + again_after wall (as_wall l)) (sym (drop_more rows i none c.loop-row-test.true)) ∙ c.loop-row.invariant.2 in (
-      subst (λ l. Marks l c.insert.new.self) (sym more) (marked wall (as_told row) c.loop-row.seen c.insert.new.self old c.insert.ensures.ordered c.in_ok-insert.ensures.updates.0),
+      subst (λ l. Marks l c.insert.new.self) (sym more) (marked wall row c.key.result c.loop-row.seen c.insert.new.self c.key.ensures old c.insert.ensures.ordered c.in_ok-insert.ensures.updates.0),
       few,
       ap₂ (λ n l. n + again_after l rest) counted more ∙ again_step c.loop-row.again (told_again (as_wall rows)) wall rest (as_told row) (not new) found here,
     )

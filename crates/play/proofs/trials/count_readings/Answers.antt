@@ -1,25 +1,21 @@
-use Rattle.std.proofs.Common.{◌≡◌, ◌+◌, ◌∷◌, length, drop, vec_items, sym, ap, ◌∙◌}
-use Rattle.std.proofs.lemmas.List.{drop_all, drop_more}
+use Rattle.std.proofs.Common.{◌≡◌, ℕ, List, [], ◌∷◌, vec_items, vec_len, Vec, sym, refl, ap, ◌∙◌, rules}
+use Rattle.std.specs.List.{fold}
+use Rattle.std.proofs.lemmas.Iterator.{YieldsList-from_slice}
+use Rattle.std.proofs.lemmas.Iterator.Consumers.{fold_from_yields_List}
 use Rattle.sums.specs.Sums.{each}
-use Rattle.sums.specs.Readings.{as_reading, as_row, as_gauges}
+use Rattle.sums.specs.Readings.{as_reading, as_gauges}
+use Rattle.sums.specs.declared.reading.Reading.{Reading}
 use Rattle.sums.proofs.Eaches.{length_each}
 use Rattle.play.specs.Trials.{plus, readings_after}
 use Rattle.play.proofs.trials.count_readings.Goals as goal
 
-pub loop-gauge-preserved : goal.loop-gauge-preserved
+readings_fold : {Z : Type 0} (n : ℕ) (gs : List (Vec Reading Z)) → readings_after n (as_gauges gs) ≡ fold (λ m v. plus m (vec_len v)) n gs
 unfolding each readings_after
-loop-gauge-preserved c =
-    let i = c.loop-gauge.gauge-index in
-    let n = c.loop-gauge.readings in
-    let gs = c.args.gauges.now in
-    let x = c.gauge-item.result in
-    let here : drop i gs ≡ x ∷ drop (i + 1) gs = drop_more gs i x c.loop-gauge-test.true ∙ ap (λ y. y ∷ drop (i + 1) gs) (sym c.gauge-item.is) in
-    let long : c.len.result ≡ length (as_row (vec_items x)) = c.len.ensures ∙ x.ok.0 ∙ sym (length_each as_reading (vec_items x)) in
-    let more : c.saturating_add-readings.result ≡ plus n (length (as_row (vec_items x))) = c.saturating_add-readings.ensures ∙ ap (plus n) long in
-    ap (λ m. readings_after m (as_gauges (drop (i + 1) gs))) more ∙ ap (λ l. readings_after n (as_gauges l)) (sym here) ∙ c.loop-gauge.invariant
+readings_fold n [] = refl
+readings_fold n (v ∷ gs) =
+    ap (λ m. readings_after (plus n m) (as_gauges gs)) (length_each as_reading (vec_items v) ∙ sym v.ok.0) ∙ readings_fold (plus n (vec_len v)) gs
 
 pub returns : goal.returns
-unfolding each readings_after
 returns c =
-    let none = drop_all c.loop-gauge.gauge-index c.args.gauges.now c.loop-gauge-test.false in
-    ap (λ l. readings_after c.loop-gauge.readings (as_gauges l)) (sym none) ∙ c.loop-gauge.invariant
+    fold_from_yields_List _ (λ m v. plus m (vec_len v)) 0 c.fold.result c.fold.ensures.ran (YieldsList-from_slice c.args.gauges.now cc) (λ a x b q k. search rules)
+    ∙ sym (readings_fold 0 c.args.gauges.now)

@@ -1,4 +1,5 @@
 use Rattle.std.proofs.Common.{◌≡◌, ap, ◌∙◌, subst}
+use Rattle.std.proofs.lemmas.Result.{IfOk-weaker}
 use Rattle.sums.specs.Sums.{all_told, every, is_right, pick}
 use Rattle.sums.specs.Readings.{as_gauges}
 use Rattle.promise.specs.Promise.{Safe}
@@ -17,14 +18,14 @@ returns c =
     let gs = as_gauges c.args.gauges.now in
     let its = c.args.items.now in
     let is : as_world c.in_ok-world.world ≡ played gs its = c.in_ok-world.ensures.world in
-    let judged = c.in_ok-judgement.ensures in
-    let said = judged.verdict ∙ ap (verdict_of gs) is in
     record {
-      verdict = said;
-      right = λ fine known.
+      verdict = IfOk-weaker c.outcome_of.result _ _ (λ t e. e ∙ ap (verdict_of gs) is) c.outcome_of.ensures.verdict;
+      right = IfOk-weaker c.outcome_of.result _ _
+          (λ t e fine known.
           let safe = ever_safe gs (unrolled its) fine known in
           let w = played gs its in
           let told = pick (all_told gs w.told) Right Untold in
-          said ∙ ap (λ b. pick b Fault (pick (every (is_right gs) w.told) told Wrong)) safe.0 ∙ ap (λ b. pick b told Wrong) safe.1;
-      score = subst (λ w. Scores gs w c.in_ok-score.score) is (c.in_ok-score.ensures judged.wrong judged.untold);
+          e ∙ ap (verdict_of gs) is ∙ ap (λ b. pick b Fault (pick (every (is_right gs) w.told) told Wrong)) safe.0 ∙ ap (λ b. pick b told Wrong) safe.1)
+          c.outcome_of.ensures.verdict;
+      score = IfOk-weaker c.outcome_of.result _ _ (λ t. subst (λ w. Scores gs w t.score) is) c.outcome_of.ensures.score;
     }

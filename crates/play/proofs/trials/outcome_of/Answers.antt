@@ -4,21 +4,22 @@ use Rattle.sums.specs.Sums.{pick}
 use Rattle.sums.proofs.Eaches.{length_each}
 use Rattle.rows.specs.Walls.{as_told, as_wall}
 use Rattle.play.specs.Scores.{told_again}
-use Rattle.play.proofs.trials.score_of.Goals as goal
+use Rattle.play.proofs.trials.outcome_of.Goals as goal
 
 one_or_none : (b : Bool) → bool_byte b ≡ pick b 1 0
 one_or_none true = refl
 one_or_none false = refl
 
-pub returns : goal.returns
-returns c wrong untold =
+pub returns-clause-score : goal.returns-clause-score
+returns-clause-score c =
     let told = c.args.world.now.told in
+    let judged = c.in_ok-verdict.ensures in
     record {
       worlds = refl;
       readings = c.count_readings.ensures;
       told = c.len.ensures ∙ told.ok.0 ∙ sym (length_each as_told (vec_items told));
       again = c.in_ok-told_again.ensures ∙ ap (λ l. told_again (as_wall l)) c.as_slice.ensures.value;
-      wrong = wrong;
-      untold = (λ e. untold.0 (sym c.len-2.ensures ∙ e), λ e. c.len-2.ensures ∙ untold.1 e);
+      wrong = judged.wrong;
+      untold = (λ e. judged.untold.0 (sym c.len-2.ensures ∙ e), λ e. c.len-2.ensures ∙ judged.untold.1 e);
       faults = c.from.ensures ∙ one_or_none c.args.world.now.fault;
     }
