@@ -2,25 +2,14 @@
 use play::{Ratio, count_readings};
 use river::River;
 use std::time::{Duration, Instant};
-use world::tally::KINDS;
-use world::{Tally, World};
-
-// By their places in a tally.
-const NAMES: [&str; KINDS] = [
-    "asked", "sought", "released", "sent", "kept", "recalled", "told", "rested", "faults",
-];
-
-const RELEASED: usize = 2;
-
-const KEPT: usize = 4;
+use world::{Kind, Tally, World};
 
 fn print_acts(rt: &HostRuntime, tally: &Tally) -> anyhow::Result<()> {
     let total = tally.total();
     print!(rt; "{total} acts")?;
-    for kind in 0..KINDS {
-        let name = NAMES[kind];
-        let count = tally.counts[kind];
-        print!(rt; ", {count} {name}")?;
+    for kind in Kind::ALL {
+        let count = tally.of(kind);
+        print!(rt; ", {count} {kind}")?;
     }
     println!(rt; "")?;
     Ok(())
@@ -42,8 +31,8 @@ pub fn print(
     let readings = count_readings(river.gauges.as_slice());
     let rows = world.told.len() as u64;
     let acts = world.tally.total();
-    let keeps = world.tally.counts[KEPT];
-    let releases = world.tally.counts[RELEASED];
+    let keeps = world.tally.of(Kind::Kept);
+    let releases = world.tally.of(Kind::Released);
     print_acts(rt, &world.tally)?;
     println!(rt; "{readings} readings, {rows} rows, {keeps} keeps, {releases} releases")?;
     print_ratio(rt, acts, readings, "reading")?;
