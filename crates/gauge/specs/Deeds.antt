@@ -42,3 +42,7 @@ out_with rests out = out
 -- what a handler leaves and answers
 abbrev pub Did : Done → Act → (memory₁ out out₁ : List ℕ) → Type 0
 Did s a memory₁ out out₁ = (memory₁ ≡ s.memory) × (a ≡ act_for s.deed) × (out₁ ≡ out_with s.deed out)
+
+-- the same of a buffer that stays as long as it is
+abbrev pub Wrote : Done → Act → (memory₁ out out₁ : List ℕ) → Type 0
+Wrote s a memory₁ out out₁ = Did s a memory₁ out out₁ × (length out₁ ≡ length out)

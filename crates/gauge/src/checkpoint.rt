@@ -2,7 +2,7 @@
 // record that names no pages.
 ghost use Rattle.std.specs.Prelude.{◌≡◌, ◌<◌};
 ghost use Rattle.sums.specs.Cells.{pages};
-ghost use Rattle.gauge.specs.Deeds.{Did};
+ghost use Rattle.gauge.specs.Deeds.{Did, Wrote};
 ghost use Rattle.gauge.specs.Kept.{committed};
 ghost use Rattle.gauge.specs.Gauge.{shadow_in, page_saved, root_saved, filled, save_next, hour_ended};
 
@@ -14,8 +14,8 @@ use store::{PageSet, Root};
 use sums::cells::PAGES;
 
 // The roll is full: the first page is kept, if there is an hour at hand.
-pub fn fill(memory: &mut Memory, out: &mut Buffer) -> Act
-    ensures { Did (filled memory.old) result memory.new out.old out.new }
+pub(crate) fn fill(memory: &mut Memory, out: &mut Buffer) -> Act
+    ensures { Wrote (filled memory.old) result memory.new out.old out.new }
 {
     if memory[BEGUN] == 0 {
         Act::Rests

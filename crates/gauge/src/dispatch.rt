@@ -1,5 +1,5 @@
 // What comes after what the machine did last.
-ghost use Rattle.gauge.specs.Deeds.{Did};
+ghost use Rattle.gauge.specs.Deeds.{Wrote};
 ghost use Rattle.gauge.specs.Gauge.{went_on};
 
 use crate::act::Act;
@@ -9,8 +9,8 @@ use crate::row::{ask, place, release};
 use crate::tell::{note_cursor, tell_next};
 
 // Told to go on, where nothing came. A phase that waits for something else rests. The lent memory keeps the phase as a number, and so no closure.
-pub fn go_on(memory: &mut Memory, out: &mut Buffer) -> Act
-    ensures { Did (went_on memory.old) result memory.new out.old out.new }
+pub(crate) fn go_on(memory: &mut Memory, out: &mut Buffer) -> Act
+    ensures { Wrote (went_on memory.old) result memory.new out.old out.new }
 {
     let Ok(phase) = Phase::try_from(memory[PHASE]) else {
         return Act::Rests;

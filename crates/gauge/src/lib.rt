@@ -4,6 +4,7 @@
 pub mod act;
 mod checkpoint;
 mod dispatch;
+mod entry;
 mod keep;
 pub mod memory;
 mod readings;
@@ -11,8 +12,6 @@ mod row;
 mod tell;
 
 pub use act::Act;
-pub use checkpoint::fill;
-pub use dispatch::go_on;
+pub use entry::{accumulate, end, fill, go_on};
 pub use memory::{Buffer, Memory, Phase};
-pub use readings::{accumulate, end};
 pub use row::place;
