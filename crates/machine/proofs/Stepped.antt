@@ -1,28 +1,12 @@
 -- From what a handler did to what a step is to say.
-use Rattle.std.proofs.Common.{◌≡◌, ℕ, ◌≤◌, List, ◌++◌, length, drop, replicate, refl, sym, ap, ◌∙◌, arith, append_assoc, length-append, length-drop}
-use Rattle.std.proofs.lemmas.List.{drop-append-le}
+use Rattle.std.proofs.Common.{◌≡◌, ℕ, List, length, replicate, refl, ap, ◌∙◌}
 use lib.ListN.{length-replicate}
 use Rattle.gauge.specs.Memory.{cells}
-use Rattle.gauge.specs.Deeds.{Deed, Done, more, from, let_go, keep, recall, tells, rests, act_for, out_with, Did}
+use Rattle.gauge.specs.Deeds.{Deed, more, from, let_go, keep, recall, tells, rests, act_for, out_with, Did}
 use Rattle.gauge.specs.declared.act.Act.{Act}
 use Rattle.machine.specs.Machine.{reacts, as_act, machine_step}
 use Rattle.machine.specs.Run.{Event}
 use Rattle.machine.specs.Entry.{own, ActTold}
-
--- a deed leaves alone what lies behind a buffer that has room for it
-longer : (d : Deed) (out rest : List ℕ) → length (out_with d out) ≡ length out → out_with d out ++ rest ≡ out_with d (out ++ rest)
-longer more out rest e = refl
-longer (from x) out rest e = refl
-longer (let_go x) out rest e = refl
-longer (keep j b) out rest e =
-    let fits : length b ≤ length out = omega (arith, simp (length-append, length-drop) at e) in
-    append_assoc b (drop (length b) out) rest ∙ ap (λ l. b ++ l) (sym (drop-append-le (length b) out rest fits))
-longer (recall x) out rest e = refl
-longer (tells h k x) out rest e = refl
-longer rests out rest e = refl
-
-pub did_longer : (s : Done) (a : Act) (m₁ out out₁ rest : List ℕ) → length out₁ ≡ length out → Did s a m₁ out out₁ → Did s a m₁ (out ++ rest) (out₁ ++ rest)
-did_longer s a m₁ out out₁ rest e d = (d.0, d.1, ap (λ l. l ++ rest) d.2 ∙ longer s.deed out rest (ap length (sym d.2) ∙ e))
 
 act_told : (d : Deed) (out : List ℕ) → ActTold (as_act d) (act_for d) out (out_with d out)
 unfolding ActTold

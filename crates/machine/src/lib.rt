@@ -9,7 +9,7 @@ ghost use Rattle.machine.specs.Machine.{reacts};
 
 use boot::{recall, wake};
 use gauge::memory::{CELLS, PHASE};
-use gauge::{Buffer, Memory, Phase, accumulate, end, fill, go_on};
+use gauge::{Memory, Phase, accumulate, end, fill, go_on};
 use thiserror::Error;
 
 mod boot;
@@ -76,9 +76,9 @@ fn check_length(bytes: &[u8]) -> Result<(), StepError>
 }
 
 // What the machine does when it is told of an event. One that cannot come in its phase changes nothing.
-fn react(memory: &mut Memory, event: Event<'_>, out: &mut Buffer) -> Act
-    ensures did { Did (reacts memory.old (as_event event.entry)) result memory.new out.old out.new }
-    ensures long { length out.new ≡ LETTER }
+fn react(memory: &mut Memory, event: Event<'_>, out: &mut [u8]) -> Act
+    requires { 4096 ≤ length out.old }
+    ensures { Did (reacts memory.old (as_event event.entry)) result memory.new out.old out.new }
 {
     let reading = memory[PHASE] == u64::from(Phase::Reading);
     match event {
@@ -100,8 +100,8 @@ pub fn step(memory: &mut [u64], event: Event<'_>, out: &mut [u8]) -> Result<Act,
         return Err(StepError::MemoryLength);
     };
     check_length(event.bytes())?;
-    let Some(out) = out.first_chunk_mut::<LETTER>() else {
+    if out.len() < LETTER {
         return Err(StepError::BufferTooShort);
-    };
+    }
     Ok(react(memory, event, out))
 }
