@@ -79,6 +79,7 @@ impl World {
     }
 
     // Each machine is poked and works.
+    #[tactic(auto, using(crate::proofs::Turning::by_each_more), unfolding(machine::specs::Run::by_each, machine::specs::Run::up_to))]
     fn poke_all(
         &mut self,
         heap: Global,
@@ -95,6 +96,7 @@ impl World {
     }
 
     // One letter from each machine comes to j, and j works each time.
+    #[tactic(auto, using(crate::proofs::Turning::by_each_more), unfolding(machine::specs::Run::by_each, machine::specs::Run::up_to))]
     fn bring_all(
         &mut self,
         heap: Global,
@@ -138,6 +140,7 @@ impl World {
     }
 
     // One thing that happens.
+    #[tactic(auto, unfolding(machine::specs::Run::happened))]
     pub fn happen(
         &mut self,
         heap: Global,
