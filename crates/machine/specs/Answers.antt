@@ -1,11 +1,13 @@
--- The code's enums, each case by its meaning among the definitions: events and acts.
-use Rattle.std.specs.Prelude.{ℕ, List, take}
+-- The code's enums, each case by its meaning among the definitions: events, acts, and why a step was refused.
+use Rattle.std.specs.Prelude.{ℕ, List, take, codes}
 use Rattle.machine.specs.Run as run
 use Rattle.machine.specs.Run.{wakes, comes, later, ends, letter, slot, next, more, from, let_go, sends, keep, recall, tells, rests}
 use Rattle.gauge.specs.declared.act.Act.{Act}
 use Rattle.gauge.specs.declared.act.Act.TheVariants as act
 use Rattle.machine.specs.declared.Event.{Event}
 use Rattle.machine.specs.declared.Event.TheVariants as event
+use Rattle.machine.specs.declared.StepError.{StepError}
+use Rattle.machine.specs.declared.StepError.TheVariants.{MemoryLength, TooManyBytes, BufferTooShort}
 
 -- the event that a case of the code's enum stands for
 abbrev pub as_event : Event → run.Event
@@ -27,3 +29,8 @@ act_back (act.Keep d n) out = keep d (take n out)
 act_back (act.Recall d) out = recall d
 act_back (act.Tells h k s) out = tells h k s
 act_back act.Rests out = rests
+
+abbrev pub said_of : StepError → List ℕ
+said_of MemoryLength = codes "the memory is not as long as a machine's"
+said_of TooManyBytes = codes "a letter or a drawer has more than 4,096 bytes"
+said_of BufferTooShort = codes "the buffer has fewer than 4,096 bytes"

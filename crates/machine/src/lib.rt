@@ -1,10 +1,10 @@
 // One machine: what it is told, what it does then, and one step from the one to the other.
 #![tactic(auto)]
 
-ghost use Rattle.std.specs.Prelude.{◌≡◌, ◌≤◌, length};
+ghost use Rattle.std.specs.Prelude.{◌≡◌, ◌≤◌, Some, length};
 ghost use Rattle.gauge.specs.Deeds.{Did};
 ghost use Rattle.gauge.specs.Memory.{cells};
-ghost use Rattle.machine.specs.Answers.{as_event};
+ghost use Rattle.machine.specs.Answers.{as_event, said_of};
 ghost use Rattle.machine.specs.Entry.{bytes_of, StepSays, step_fits};
 ghost use Rattle.machine.specs.Machine.{reacts};
 
@@ -56,6 +56,8 @@ pub const ROLL: u64 = 4096;
 pub const LETTER: usize = 4096;
 
 impl fmt::Display for StepError {
+    ghost output = { λ e. Some (said_of e) };
+
     fn fmt<W: fmt::Write>(&self, f: &mut fmt::Formatter<W>) -> fmt::Result {
         f.write_str(match self {
             StepError::MemoryLength => "the memory is not as long as a machine's",

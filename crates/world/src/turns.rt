@@ -14,6 +14,7 @@ use river::Item;
 use std::alloc::{AllocError, Global};
 use sums::Reading;
 
+// Heap and gauges go along as two arguments: bound in one, they would only have a longer name in each contract.
 impl World {
     // The oldest letter from i to j comes, if j rests.
     fn deliver(&mut self, i: u64, j: u64)
@@ -52,8 +53,9 @@ impl World {
         let Some(effect) = hut.take_turn(heap, &mut self.desk, row, i)? else {
             return Ok(false);
         };
-        self.tally.count(Kind::from(&effect));
+        let kind = Kind::from(&effect);
         self.post(i, effect)?;
+        self.tally.count(kind);
         Ok(true)
     }
 
