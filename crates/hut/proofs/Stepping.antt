@@ -1,5 +1,5 @@
 -- A step on the desk is a step of the machine.
-use Rattle.std.proofs.Common.{◌≡◌, ℕ, ◌≤◌, List, [], ◌∷◌, length, Some, None, Ok, refl, vec_items, Result, sym, ap, ◌∙◌, arith, lit≤}
+use Rattle.std.proofs.Common.{◌≡◌, ℕ, ◌≤◌, List, [], ◌∷◌, length, Some, Ok, vec_items, Result, sym, ap, ◌∙◌, arith, lit≤}
 use Rattle.std.proofs.lemmas.Bool.{eq-eqb, le-leb}
 use Rattle.sums.specs.Sums as given
 use Rattle.machine.specs.Run as run
@@ -44,10 +44,6 @@ pub step_done : (h : Hut) (p : Pending) (a b : Act) (d : Desk) (m₁ out₁ : Li
     (m₁ ≡ (own.step (vec_items h.memory) (as_event p)).memory) × (act_back b out₁ ≡ (own.step (vec_items h.memory) (as_event p)).act) →
     StepDone (vec_items h.memory) (as_pending h.pending) (Some a) d
 step_done h p a b d m₁ out₁ is same memory out done = rw (is, same, memory, out) done
-
-pub step_none : (m : List ℕ) (evs : List run.Event) (d : Desk) → StepDone m evs None d → evs ≡ []
-step_none m [] d s = refl
-step_none m (ev ∷ evs) d s = absurd s
 
 -- a step on the desk and its act are one step of the definitions
 pub turned : (rs : List given.Reading) (i : ℕ) (x x₁ : run.Machine) (a : Act) (d : Desk) (f : Effect) (evs : List run.Event) → x.pending ≡ evs →

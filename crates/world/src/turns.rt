@@ -14,6 +14,7 @@ use river::Item;
 use std::alloc::{AllocError, Global};
 use sums::Reading;
 
+// Heap and gauges go along as two arguments: bound in one, they would only have a longer name in each contract.
 impl World {
     // The oldest letter from i to j comes, if j rests.
     fn deliver(&mut self, i: u64, j: u64)
@@ -52,8 +53,9 @@ impl World {
         let Some(effect) = hut.take_turn(heap, &mut self.desk, row, i)? else {
             return Ok(false);
         };
-        self.tally.count(Kind::from(&effect));
+        let kind = Kind::from(&effect);
         self.post(i, effect)?;
+        self.tally.count(kind);
         Ok(true)
     }
 
@@ -79,6 +81,7 @@ impl World {
     }
 
     // Each machine is poked and works.
+    #[tactic(auto, using(crate::proofs::Turning::by_each_more), unfolding(machine::specs::Run::by_each, machine::specs::Run::up_to))]
     fn poke_all(
         &mut self,
         heap: Global,
@@ -95,6 +98,7 @@ impl World {
     }
 
     // One letter from each machine comes to j, and j works each time.
+    #[tactic(auto, using(crate::proofs::Turning::by_each_more), unfolding(machine::specs::Run::by_each, machine::specs::Run::up_to))]
     fn bring_all(
         &mut self,
         heap: Global,
@@ -138,6 +142,7 @@ impl World {
     }
 
     // One thing that happens.
+    #[tactic(auto, unfolding(machine::specs::Run::happened))]
     pub fn happen(
         &mut self,
         heap: Global,
