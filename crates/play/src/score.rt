@@ -35,6 +35,7 @@ pub fn told_again(heap: Global, told: &[Row]) -> Result<u64, AllocError>
 {
     let mut seen = BTreeSet::new(heap);
     let mut again: u64 = 0;
+    // A loop and no chain, since to keep a key can fail.
     for row in told {
         if !seen.insert(row.key())? {
             again += 1;
@@ -69,8 +70,7 @@ impl Ratio {
 
 impl fmt::Display for Ratio {
     fn fmt<W: fmt::Write>(&self, f: &mut fmt::Formatter<W>) -> fmt::Result {
-        let whole = self.whole;
-        let hundredths = self.hundredths;
+        let Ratio { whole, hundredths } = *self;
         write!(f, "{whole}.{hundredths:02}")
     }
 }

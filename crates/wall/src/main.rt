@@ -2,10 +2,11 @@
 #![tactic(auto)]
 
 use rows::Row;
-use std::alloc::{AllocError, AllocFailed};
+use std::alloc::{AllocError, Global};
 use std::io::Read;
 use std::process::ExitCode;
 use std::{env, fmt, fs, io};
+use thiserror::Error;
 use wall_reader::{
     ChartMistake, Complaint, Form, Mark, Misuse, WallMistake, chart, chosen, parse_words,
 };
@@ -24,59 +25,22 @@ and prints each hour and place once, in order.
   --help        this text
 ";
 
-#[derive(Drop)]
+#[derive(Debug, Drop, Error)]
 enum Failure {
     // A word, and what is wrong with it.
+    #[error("{0}: {1}")]
     Word(String, Complaint),
     // What cannot be read, and why.
+    #[error("{0} cannot be read: {1}")]
     Input(String, io::Error),
-    Output(io::Error),
-    Wall(WallMistake),
-    Chart(ChartMistake),
-    Memory,
-}
-
-impl From<io::Error> for Failure {
-    fn from(error: io::Error) -> Failure {
-        Failure::Output(error)
-    }
-}
-
-impl From<WallMistake> for Failure {
-    fn from(mistake: WallMistake) -> Failure {
-        Failure::Wall(mistake)
-    }
-}
-
-impl From<ChartMistake> for Failure {
-    fn from(mistake: ChartMistake) -> Failure {
-        Failure::Chart(mistake)
-    }
-}
-
-impl From<AllocError> for Failure {
-    fn from(_e: AllocError) -> Failure {
-        Failure::Memory
-    }
-}
-
-impl<T: Drop> From<AllocFailed<T>> for Failure {
-    fn from(_e: AllocFailed<T>) -> Failure {
-        Failure::Memory
-    }
-}
-
-impl fmt::Display for Failure {
-    fn fmt<W: fmt::Write>(&self, f: &mut fmt::Formatter<W>) -> fmt::Result {
-        match self {
-            Failure::Word(word, complaint) => write!(f, "{word}: {complaint}"),
-            Failure::Input(name, error) => write!(f, "{name} cannot be read: {error}"),
-            Failure::Output(error) => write!(f, "the rows cannot be written: {error}"),
-            Failure::Wall(mistake) => write!(f, "{mistake}"),
-            Failure::Chart(mistake) => write!(f, "{mistake}"),
-            Failure::Memory => f.write_str("there is not enough memory"),
-        }
-    }
+    #[error("the rows cannot be written: {0}")]
+    Output(#[from] io::Error),
+    #[error(transparent)]
+    Wall(#[from] WallMistake),
+    #[error(transparent)]
+    Chart(#[from] ChartMistake),
+    #[error("there is not enough memory")]
+    Memory(#[from(alloc)] AllocError),
 }
 
 // What is wrong is said once, on standard error; the status is then 1.
@@ -90,18 +54,18 @@ fn main(rt: HostRuntime) -> ExitCode {
 
 fn run(rt: &HostRuntime) -> Result<(), Failure> {
     let heap = rt.alloc();
-    let mut words = words(rt)?;
+    let words: Vec<String> = env::args(rt)?.skip(1).collect(heap)?;
     let request = match parse_words(words.as_slice()) {
         Ok(request) => request,
         Err(Misuse { word, complaint }) => {
-            return Err(Failure::Word(nth(rt, &mut words, word), complaint));
+            return Err(Failure::Word(nth(heap, words, word), complaint));
         }
     };
     if request.help {
         return Ok(print!(rt; "{USAGE}")?);
     }
     let text = match request.file {
-        Some(word) => read_file(rt, nth(rt, &mut words, word))?,
+        Some(word) => read_file(rt, nth(heap, words, word))?,
         None => read_input(rt)?,
     };
     let rows = wall_reader::read(heap, text.as_str())?;
@@ -113,28 +77,13 @@ fn run(rt: &HostRuntime) -> Result<(), Failure> {
     }
 }
 
-// The words behind the program's name.
-fn words(rt: &HostRuntime) -> Result<Vec<String>, Failure> {
-    let mut words = Vec::new(rt.alloc());
-    for word in env::args(rt)?.skip(1) {
-        words.push(word)?;
-    }
-    Ok(words)
-}
-
-fn nth(rt: &HostRuntime, words: &mut Vec<String>, at: usize) -> String {
-    if at < words.len() {
-        words.swap_remove(at)
-    } else {
-        String::new(rt.alloc())
-    }
+// The word with this number, and nothing where there is none.
+fn nth(heap: Global, words: Vec<String>, at: usize) -> String {
+    words.into_iter().nth(at).unwrap_or(String::new(heap))
 }
 
 fn read_file(rt: &HostRuntime, path: String) -> Result<String, Failure> {
-    match fs::read_to_string(rt, path.as_str()) {
-        Ok(text) => Ok(text),
-        Err(error) => Err(Failure::Input(path, error)),
-    }
+    fs::read_to_string(rt, path.as_str()).map_err(|error| Failure::Input(path, error))
 }
 
 fn read_input(rt: &HostRuntime) -> Result<String, Failure> {
@@ -154,8 +103,7 @@ fn print_rows(rt: &HostRuntime, rows: &[Row]) -> Result<(), Failure> {
 
 fn print_csv(rt: &HostRuntime, rows: &[Row]) -> Result<(), Failure> {
     println!(rt; "hour,place,sum")?;
-    for row in rows {
-        let Row { hour, place, sum } = *row;
+    for Row { hour, place, sum } in rows {
         println!(rt; "{hour},{place},{sum}")?;
     }
     Ok(())
@@ -189,11 +137,8 @@ fn print_chart(rt: &HostRuntime, rows: &[Row]) -> Result<(), Failure> {
         Some(Row { hour, .. }) => format!(in heap; "{hour}")?.len(),
         None => 0,
     };
-    for mark in marks.iter() {
-        let drawn = Drawn {
-            mark: *mark,
-            columns,
-        };
+    for &mark in marks.iter() {
+        let drawn = Drawn { mark, columns };
         println!(rt; "{drawn}")?;
     }
     Ok(())

@@ -1,11 +1,13 @@
 -- Rows of the code, one after the other. Assumes nothing.
-use Rattle.std.proofs.Common.{◌≡◌, ℕ, zero, suc, ◌+◌, ◌<◌, Bool, true, false, List, [], ◌∷◌, ◌++◌, length, get_or, drop, sym, ap, ◌∙◌, append_assoc, arith}
+use Rattle.std.proofs.Common.{◌≡◌, ℕ, zero, suc, ◌+◌, ◌<◌, Bool, true, false, cond, not, eqb, ◌&&◌, Some, None, refl, List, [], ◌∷◌, length, get_or, drop, sym, ap, ◌∙◌, arith}
+use Rattle.std.specs.List.{find}
+use Rattle.std.proofs.lemmas.Bool.{eq-eqb}
 use Rattle.std.proofs.lemmas.List.{drop_more}
-use Rattle.sums.specs.Sums.{any, each, or, those, ToldSum}
+use Rattle.sums.specs.Sums.{any, every, each, or, ToldSum}
 use Rattle.sums.proofs.Everys.{or_true}
 use Rattle.rows.specs.declared.Row.{Row}
 use Rattle.rows.specs.Walls.{as_told, as_wall}
-use Rattle.rows.proofs.Walls.{those_first, those_skip}
+use Rattle.wall_reader.specs.Charts.{of_place}
 
 -- what a row past the end is read as
 abbrev pub no_row : Row
@@ -16,18 +18,35 @@ module _ (rows : List Row) (i : ℕ) (d : Row) (h : i < length rows) where
   unfolding each
   wall_drop = ap as_wall (drop_more rows i d h)
 
-  -- a row that is passed over, and one that is taken
-  module _ (f : ToldSum → Bool) (done whole : List ToldSum) (so : done ++ those f (as_wall (drop i rows)) ≡ whole) where
-    pub passed : f (as_told (get_or rows i d)) ≡ false → done ++ those f (as_wall (drop (i + 1) rows)) ≡ whole
-    passed e = ap (λ l. done ++ l) (sym (those_skip f (as_told (get_or rows i d)) (as_wall (drop (i + 1) rows)) e) ∙ ap (those f) (sym wall_drop)) ∙ so
-
-    pub took : f (as_told (get_or rows i d)) ≡ true → (done ++ as_told (get_or rows i d) ∷ []) ++ those f (as_wall (drop (i + 1) rows)) ≡ whole
-    took e =
-        append_assoc done (as_told (get_or rows i d) ∷ []) (those f (as_wall (drop (i + 1) rows)))
-        ∙ ap (λ l. done ++ l) (sym (those_first f (as_told (get_or rows i d)) (as_wall (drop (i + 1) rows)) e) ∙ ap (those f) (sym wall_drop)) ∙ so
-
 pub any_place : (f : ToldSum → Bool) (rows : List Row) (i : ℕ) (d : Row) → i < length rows → f (as_told (get_or rows i d)) ≡ true → any f (as_wall rows) ≡ true
 unfolding any each
 any_place f [] i d h e = absurd (omega arith)
 any_place f (r ∷ rows) zero d h e = ap (λ b. or b (any f (as_wall rows))) e
 any_place f (r ∷ rows) (suc i) d h e = ap (or (f (as_told r))) (any_place f rows i d (omega arith) e) ∙ or_true (f (as_told r))
+
+-- the first row that is of another place, if any
+abbrev pub elsewhere : ℕ → Row → Bool
+elsewhere k r = not (eqb r.place k)
+
+pub none_elsewhere : (k : ℕ) (rows : List Row) → find (elsewhere k) rows ≡ None → every (of_place k) (as_wall rows) ≡ true
+unfolding every each
+none_elsewhere k [] e = refl
+none_elsewhere k (r ∷ rows) e = go (eqb r.place k) e (none_elsewhere k rows)
+  where
+    go : (b : Bool) → cond (not b) (Some r) (find (elsewhere k) rows) ≡ None → (find (elsewhere k) rows ≡ None → every (of_place k) (as_wall rows) ≡ true) →
+        b && every (of_place k) (as_wall rows) ≡ true
+    go true e next = next e
+    go false e next = cc
+
+pub one_elsewhere : (k : ℕ) (rows : List Row) (x : Row) → find (elsewhere k) rows ≡ Some x → (any (of_place x.place) (as_wall rows) ≡ true) × (eqb x.place k ≡ false)
+unfolding any each
+one_elsewhere k [] x e = cc
+one_elsewhere k (r ∷ rows) x e = go (eqb r.place k) refl e (one_elsewhere k rows x)
+  where
+    go : (b : Bool) → eqb r.place k ≡ b → cond (not b) (Some r) (find (elsewhere k) rows) ≡ Some x →
+        (find (elsewhere k) rows ≡ Some x → (any (of_place x.place) (as_wall rows) ≡ true) × (eqb x.place k ≡ false)) →
+        (or (eqb r.place x.place) (any (of_place x.place) (as_wall rows)) ≡ true) × (eqb x.place k ≡ false)
+    go true is e next = let there = next e in (ap (or (eqb r.place x.place)) there.0 ∙ or_true (eqb r.place x.place), there.1)
+    go false is e next =
+        let same : r ≡ x = cc in
+        (ap (λ b. or b (any (of_place x.place) (as_wall rows))) (eq-eqb _ _ (ap (λ q. q.place) same)), ap (λ q. eqb q.place k) (sym same) ∙ is)

@@ -25,19 +25,13 @@ pub struct Filter {
 fn is_asked(asked: Option<u64>, number: u64) -> bool
     ensures { result ≡ is_asked asked number }
 {
-    match asked {
-        None => true,
-        Some(one) => one == number,
-    }
+    asked.is_none_or(|one| one == number)
 }
 
 fn is_within(hours: Option<Hours>, hour: u64) -> bool
     ensures { result ≡ is_within hours hour }
 {
-    match hours {
-        None => true,
-        Some(Hours { from, to }) => from <= hour && hour < to,
-    }
+    hours.is_none_or(|Hours { from, to }| from <= hour && hour < to)
 }
 
 impl Filter {
@@ -62,11 +56,8 @@ pub fn chosen(heap: Global, rows: &[Row], filter: &Filter) -> Result<Vec<Row>, A
     ensures those { IfOk result (λ v. as_wall v.items ≡ those (lets_through filter.now) (as_wall rows.now)) }
     ensures ordered { IfOk result (λ v. in_order (as_wall rows.now) ≡ true → in_order (as_wall v.items) ≡ true) }
 {
-    let mut some = Vec::new(heap);
-    for row in rows {
-        if filter.lets(*row) {
-            some.push(*row)?;
-        }
-    }
-    Ok(some)
+    rows.iter()
+        .copied()
+        .filter(|row| filter.lets(*row))
+        .collect(heap)
 }

@@ -6,8 +6,7 @@ ghost use Rattle.wall_reader.specs.Charts.{PlaceSays, ChartSays, bar_of, is_gap,
 
 use rows::Row;
 use std::alloc::{AllocFailed, Global};
-use std::error::Error;
-use std::fmt;
+use thiserror::Error;
 
 // How long the longest bar is.
 pub const WIDTH: u64 = 50;
@@ -20,14 +19,18 @@ pub enum Mark {
     Bar { hour: u64, length: u64, sum: u64 },
 }
 
-#[derive(Clone, Copy, PartialEq, Eq, Debug)]
+#[derive(Clone, Copy, PartialEq, Eq, Debug, Error)]
 pub enum ChartMistake {
+    #[error("there are no rows to chart")]
     NoRows,
     // Two places that both have rows.
+    #[error("a chart is of one place, and here are places {0} and {1}")]
     Places(u64, u64),
+    #[error("there is not enough memory")]
     Memory,
 }
 
+// By hand, as a clause names the error that `?` makes.
 impl<T: Drop> From<AllocFailed<T>> for ChartMistake {
     ghost from_gives = { λ _ r. r ≡ NoMemory };
 
@@ -35,21 +38,6 @@ impl<T: Drop> From<AllocFailed<T>> for ChartMistake {
         ChartMistake::Memory
     }
 }
-
-impl fmt::Display for ChartMistake {
-    fn fmt<W: fmt::Write>(&self, f: &mut fmt::Formatter<W>) -> fmt::Result {
-        match self {
-            ChartMistake::NoRows => f.write_str("there are no rows to chart"),
-            ChartMistake::Places(one, other) => write!(
-                f,
-                "a chart is of one place, and here are places {one} and {other}"
-            ),
-            ChartMistake::Memory => f.write_str("there is not enough memory"),
-        }
-    }
-}
-
-impl Error for ChartMistake {}
 
 // How long the bar of a sum is where the greatest sum's is as long as the width.
 pub fn bar(sum: u64, greatest: u64, width: u64) -> u64
@@ -66,11 +54,7 @@ pub fn bar(sum: u64, greatest: u64, width: u64) -> u64
 fn greatest(rows: &[Row]) -> u64
     ensures { result ≡ greatest_of (as_wall rows.now) }
 {
-    let mut greatest = 0;
-    for row in rows {
-        greatest = row.sum.max(greatest);
-    }
-    greatest
+    rows.iter().map(|row| row.sum).max().unwrap_or(0)
 }
 
 // The place that all the rows are of.
@@ -80,22 +64,17 @@ fn one_place(rows: &[Row]) -> Result<u64, ChartMistake>
     let Some(first) = rows.first() else {
         return Err(ChartMistake::NoRows);
     };
-    for row in rows {
-        if row.place != first.place {
-            return Err(ChartMistake::Places(first.place, row.place));
-        }
+    match rows.iter().find(|row| row.place != first.place) {
+        Some(other) => Err(ChartMistake::Places(first.place, other.place)),
+        None => Ok(first.place),
     }
-    Ok(first.place)
 }
 
 // Whether hours are missing between the one before and this one.
 fn is_gap(before: Option<u64>, hour: u64) -> bool
     ensures { result ≡ is_gap before hour }
 {
-    match before {
-        None => false,
-        Some(last) => last < hour && hour - last > 1,
-    }
+    before.is_some_and(|last| hour.saturating_sub(last) > 1)
 }
 
 // The chart of the rows of one place.

@@ -13,22 +13,16 @@ use text::{decimal, first_word, same};
 fn next_word(bytes: &[u8]) -> Result<(&[u8], &[u8]), Reason>
     ensures { MatchResult result (λ p. words bytes.now ≡ p.0.now ∷ words p.1.now) (λ e. (e ≡ TooFewWords) × (words bytes.now ≡ [])) }
 {
-    match first_word(bytes) {
-        Some(parts) => Ok(parts),
-        None => Err(Reason::TooFewWords),
-    }
+    first_word(bytes).ok_or(Reason::TooFewWords)
 }
 
 // The number before the colon that ends a word.
 fn place_of(word: &[u8]) -> Option<u64>
     ensures { result ≡ place_of word.now }
 {
-    let [digits @ .., last] = word else {
+    let [digits @ .., b':'] = word else {
         return None;
     };
-    if *last != b':' {
-        return None;
-    }
     decimal(digits)
 }
 
@@ -39,18 +33,12 @@ fn row_by(first: &[u8], hour: &[u8], third: &[u8], place: &[u8], sum: &[u8]) -> 
     if !same(first, b"hour") {
         return Err(Reason::NoHour);
     }
-    let Some(hour) = decimal(hour) else {
-        return Err(Reason::BadHour);
-    };
+    let hour = decimal(hour).ok_or(Reason::BadHour)?;
     if !same(third, b"place") {
         return Err(Reason::NoPlace);
     }
-    let Some(place) = place_of(place) else {
-        return Err(Reason::BadPlace);
-    };
-    let Some(sum) = decimal(sum) else {
-        return Err(Reason::BadSum);
-    };
+    let place = place_of(place).ok_or(Reason::BadPlace)?;
+    let sum = decimal(sum).ok_or(Reason::BadSum)?;
     Ok(Row { hour, place, sum })
 }
 

@@ -3,27 +3,36 @@ ghost use Rattle.std.specs.Prelude.{◌≡◌};
 ghost use Rattle.wall_reader.specs.declared.mistake.WallMistake.TheVariants.{Memory as NoMemory};
 
 use std::alloc::{AllocError, AllocFailed};
-use std::error::Error;
-use std::fmt;
+use thiserror::Error;
 
 // Why a line is no row.
-#[derive(Clone, Copy, PartialEq, Eq, Debug)]
+#[derive(Clone, Copy, PartialEq, Eq, Debug, Error)]
 pub enum Reason {
+    #[error("this line is blank")]
     Blank,
+    #[error("a row is `hour H place P: S`, and here are too few words")]
     TooFewWords,
+    #[error("a row is `hour H place P: S`, and here are too many words")]
     TooManyWords,
+    #[error("the first word is not `hour`")]
     NoHour,
+    #[error("the hour is not a number below 2^64")]
     BadHour,
+    #[error("the third word is not `place`")]
     NoPlace,
+    #[error("the place is not a number below 2^64 and a colon")]
     BadPlace,
+    #[error("the sum is not a number below 2^64")]
     BadSum,
 }
 
-#[derive(Clone, Copy, PartialEq, Eq, Debug)]
+#[derive(Clone, Copy, PartialEq, Eq, Debug, Error)]
 pub enum WallMistake {
     // The line's number, from 1.
+    #[error("line {0}: {1}")]
     Line(u64, Reason),
     // A line above says another sum of this hour and place.
+    #[error("line {line}: hour {hour} place {place} is {second} here and {first} above")]
     Contradiction {
         line: u64,
         hour: u64,
@@ -31,10 +40,11 @@ pub enum WallMistake {
         first: u64,
         second: u64,
     },
-    // There was not enough memory to hold the rows.
+    #[error("there is not enough memory")]
     Memory,
 }
 
+// By hand, as clauses name the error that `?` makes.
 impl From<AllocError> for WallMistake {
     ghost from_gives = { λ _ r. r ≡ NoMemory };
 
@@ -50,45 +60,3 @@ impl<T: Drop> From<AllocFailed<T>> for WallMistake {
         WallMistake::Memory
     }
 }
-
-impl Reason {
-    fn text(self) -> &'static str {
-        match self {
-            Reason::Blank => "this line is blank",
-            Reason::TooFewWords => "a row is `hour H place P: S`, and here are too few words",
-            Reason::TooManyWords => "a row is `hour H place P: S`, and here are too many words",
-            Reason::NoHour => "the first word is not `hour`",
-            Reason::BadHour => "the hour is not a number below 2^64",
-            Reason::NoPlace => "the third word is not `place`",
-            Reason::BadPlace => "the place is not a number below 2^64 and a colon",
-            Reason::BadSum => "the sum is not a number below 2^64",
-        }
-    }
-}
-
-impl fmt::Display for Reason {
-    fn fmt<W: fmt::Write>(&self, f: &mut fmt::Formatter<W>) -> fmt::Result {
-        f.write_str(self.text())
-    }
-}
-
-impl fmt::Display for WallMistake {
-    fn fmt<W: fmt::Write>(&self, f: &mut fmt::Formatter<W>) -> fmt::Result {
-        match self {
-            WallMistake::Line(number, reason) => write!(f, "line {number}: {reason}"),
-            WallMistake::Contradiction {
-                line,
-                hour,
-                place,
-                first,
-                second,
-            } => write!(
-                f,
-                "line {line}: hour {hour} place {place} is {second} here and {first} above"
-            ),
-            WallMistake::Memory => f.write_str("there is not enough memory"),
-        }
-    }
-}
-
-impl Error for WallMistake {}

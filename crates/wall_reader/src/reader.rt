@@ -1,12 +1,10 @@
 // The text of a wall, read whole.
-ghost use Rattle.std.specs.Prelude.{◌≡◌, IfOk};
-ghost use Rattle.rows.specs.Walls.{as_wall, rows_of};
 ghost use Rattle.wall_reader.specs.Reads.{ReadSays, RowTaken, LineTaken};
 
 use crate::line::read_row;
 use crate::mistake::WallMistake;
-use rows::{Row, Sums};
-use std::alloc::{AllocError, Global};
+use rows::{Row, Sums, listed};
+use std::alloc::Global;
 use std::collections::BTreeMap;
 use text::first_line;
 
@@ -14,7 +12,7 @@ use text::first_line;
 fn take_row(sums: &mut Sums, line: u64, row: Row) -> Result<(), WallMistake>
     ensures { RowTaken line row sums.old sums.new result }
 {
-    let key = (row.hour, row.place);
+    let key = row.key();
     let Some(first) = sums.get(&key).copied() else {
         sums.insert(key, row.sum)?;
         return Ok(());
@@ -40,22 +38,6 @@ fn take_line(sums: &mut Sums, number: u64, line: &[u8]) -> Result<(), WallMistak
     }
 }
 
-// The sums as rows, by hour and place.
-fn rows_in_order(heap: Global, sums: &Sums) -> Result<Vec<Row>, AllocError>
-    ensures { IfOk result (λ v. as_wall v.items ≡ rows_of sums.now) }
-{
-    let mut rows = Vec::new(heap);
-    for (key, sum) in sums.iter() {
-        let (hour, place) = *key;
-        rows.push(Row {
-            hour,
-            place,
-            sum: *sum,
-        })?;
-    }
-    Ok(rows)
-}
-
 // The rows of a wall, each once, by hour and place; or the first line that is no row or contradicts one above it.
 pub fn read(heap: Global, text: &str) -> Result<Vec<Row>, WallMistake>
     ensures { ReadSays text.now result }
@@ -68,5 +50,5 @@ pub fn read(heap: Global, text: &str) -> Result<Vec<Row>, WallMistake>
         take_line(&mut sums, number, line)?;
         rest = after;
     }
-    Ok(rows_in_order(heap, &sums)?)
+    Ok(listed(heap, &sums)?)
 }

@@ -5,8 +5,8 @@ ghost use Rattle.text.specs.Text.{decimal as decimal_of};
 ghost use Rattle.wall_reader.specs.Requests.{kind_of, hours_of, number_of, valued, plain_taken, word_taken, asked_by};
 
 use crate::asked::{Filter, Hours};
-use std::fmt;
-use text::{decimal, same, until_dot};
+use text::{decimal, until_dot};
+use thiserror::Error;
 
 // How rows are shown.
 #[derive(Clone, Copy, PartialEq, Eq, Debug)]
@@ -18,7 +18,7 @@ pub enum Form {
 
 #[derive(Clone, Copy, PartialEq, Eq, Debug)]
 pub struct Request {
-    // Which word names the file, counted from 0.
+    // Which word names the file, counted from 0: a borrowed word has an address too, of which no clause speaks.
     pub file: Option<usize>,
     pub filter: Filter,
     pub form: Form,
@@ -26,25 +26,18 @@ pub struct Request {
 }
 
 // What is wrong with a word.
-#[derive(Clone, Copy, PartialEq, Eq, Debug)]
+#[derive(Clone, Copy, PartialEq, Eq, Debug, Error)]
 pub enum Complaint {
+    #[error("there is no such option")]
     NoSuchOption,
+    #[error("its value is missing")]
     NoValue,
+    #[error("this is not a number below 2^64")]
     NotANumber,
+    #[error("hours are two numbers below 2^64, as 3..12")]
     NotHours,
+    #[error("a file is named already")]
     SecondFile,
-}
-
-impl fmt::Display for Complaint {
-    fn fmt<W: fmt::Write>(&self, f: &mut fmt::Formatter<W>) -> fmt::Result {
-        f.write_str(match self {
-            Complaint::NoSuchOption => "there is no such option",
-            Complaint::NoValue => "its value is missing",
-            Complaint::NotANumber => "this is not a number below 2^64",
-            Complaint::NotHours => "hours are two numbers below 2^64, as 3..12",
-            Complaint::SecondFile => "a file is named already",
-        })
-    }
 }
 
 // The word, counted from 0, and what is wrong with it.
@@ -72,32 +65,19 @@ enum Kind {
     Unknown,
 }
 
-fn begins_with_dash(word: &[u8]) -> bool
-    ensures { result ≡ (slice_index word.now 0 == 45) }
-{
-    !word.is_empty() && word[0] == b'-'
-}
-
 impl Kind {
-    fn of(word: &[u8]) -> Kind
+    fn of(word: &str) -> Kind
         ensures { result ≡ kind_of word.now }
     {
-        if same(word, b"--hour") {
-            Kind::Valued(Valued::Hour)
-        } else if same(word, b"--hours") {
-            Kind::Valued(Valued::Hours)
-        } else if same(word, b"--place") {
-            Kind::Valued(Valued::Place)
-        } else if same(word, b"--csv") {
-            Kind::Csv
-        } else if same(word, b"--chart") {
-            Kind::Chart
-        } else if same(word, b"--help") {
-            Kind::Help
-        } else if begins_with_dash(word) {
-            Kind::Unknown
-        } else {
-            Kind::File
+        match word {
+            "--hour" => Kind::Valued(Valued::Hour),
+            "--hours" => Kind::Valued(Valued::Hours),
+            "--place" => Kind::Valued(Valued::Place),
+            "--csv" => Kind::Csv,
+            "--chart" => Kind::Chart,
+            "--help" => Kind::Help,
+            _ if word.starts_with('-') => Kind::Unknown,
+            _ => Kind::File,
         }
     }
 }
@@ -107,16 +87,10 @@ fn hours_of(word: &[u8]) -> Result<Hours, Complaint>
     ensures { result ≡ hours_of word.now }
 {
     let (front, back) = until_dot(word);
-    let [_, second, end @ ..] = back else {
+    let [_, b'.', end @ ..] = back else {
         return Err(Complaint::NotHours);
     };
-    if *second != b'.' {
-        return Err(Complaint::NotHours);
-    }
-    let Some(from) = decimal(front) else {
-        return Err(Complaint::NotHours);
-    };
-    let Some(to) = decimal(end) else {
+    let (Some(from), Some(to)) = (decimal(front), decimal(end)) else {
         return Err(Complaint::NotHours);
     };
     Ok(Hours { from, to })
@@ -125,10 +99,7 @@ fn hours_of(word: &[u8]) -> Result<Hours, Complaint>
 fn number_of(word: &[u8]) -> Result<u64, Complaint>
     ensures { result ≡ number_of (decimal_of word.now) }
 {
-    match decimal(word) {
-        Some(number) => Ok(number),
-        None => Err(Complaint::NotANumber),
-    }
+    decimal(word).ok_or(Complaint::NotANumber)
 }
 
 impl Valued {
@@ -136,21 +107,20 @@ impl Valued {
     fn put(self, filter: Filter, word: &[u8]) -> Result<Filter, Complaint>
         ensures { result ≡ valued self filter word.now }
     {
-        let Filter { hour, hours, place } = filter;
-        match self {
-            Valued::Hour => {
-                let hour = Some(number_of(word)?);
-                Ok(Filter { hour, hours, place })
-            }
-            Valued::Place => {
-                let place = Some(number_of(word)?);
-                Ok(Filter { hour, hours, place })
-            }
-            Valued::Hours => {
-                let hours = Some(hours_of(word)?);
-                Ok(Filter { hour, hours, place })
-            }
-        }
+        Ok(match self {
+            Valued::Hour => Filter {
+                hour: Some(number_of(word)?),
+                ..filter
+            },
+            Valued::Hours => Filter {
+                hours: Some(hours_of(word)?),
+                ..filter
+            },
+            Valued::Place => Filter {
+                place: Some(number_of(word)?),
+                ..filter
+            },
+        })
     }
 }
 
@@ -163,38 +133,34 @@ struct Draft {
 
 impl Draft {
     // A word more that is no value.
-    fn plain(self, at: usize, word: &[u8]) -> Result<Draft, Complaint>
+    fn plain(mut self, at: usize, word: &str) -> Result<Draft, Complaint>
         ensures { result ≡ plain_taken self at (kind_of word.now) }
     {
-        let Draft {
-            mut request,
-            mut waits,
-        } = self;
+        let request = &mut self.request;
         match Kind::of(word) {
-            Kind::Valued(option) => waits = Some(option),
+            Kind::Valued(option) => self.waits = Some(option),
             Kind::Csv => request.form = Form::Csv,
             Kind::Chart => request.form = Form::Chart,
             Kind::Help => request.help = true,
+            Kind::File if request.file.is_none() => request.file = Some(at),
+            Kind::File => return Err(Complaint::SecondFile),
             Kind::Unknown => return Err(Complaint::NoSuchOption),
-            Kind::File => {
-                if request.file.is_some() {
-                    return Err(Complaint::SecondFile);
-                }
-                request.file = Some(at);
-            }
         }
-        Ok(Draft { request, waits })
+        Ok(self)
     }
 
     // A word more.
-    fn take(self, at: usize, word: &[u8]) -> Result<Draft, Complaint>
+    fn take(self, at: usize, word: &str) -> Result<Draft, Complaint>
         ensures { result ≡ word_taken self at word.now }
     {
         let Some(option) = self.waits else {
             return self.plain(at, word);
         };
-        let Draft { mut request, .. } = self;
-        request.filter = option.put(request.filter, word)?;
+        let filter = option.put(self.request.filter, word.as_bytes())?;
+        let request = Request {
+            filter,
+            ..self.request
+        };
         Ok(Draft {
             request,
             waits: None,
@@ -215,14 +181,11 @@ pub fn parse_words(words: &[String]) -> Result<Request, Misuse>
         },
         waits: None,
     };
-    for at in 0..words.len() {
-        match draft.take(at, words[at].as_bytes()) {
-            Ok(next) => draft = next,
-            Err(complaint) => return Err(Misuse {
-                word: at,
-                complaint,
-            }),
-        }
+    for (at, word) in words.iter().enumerate() {
+        draft = draft.take(at, word.as_str()).map_err(|complaint| Misuse {
+            word: at,
+            complaint,
+        })?;
     }
     match draft.waits {
         None => Ok(draft.request),

@@ -1,26 +1,27 @@
-use Rattle.std.proofs.Common.{◌≡◌, ◌+◌, max, get_or, drop, sym, ap, ◌∙◌, arith}
-use native.Mathlib.Nat.{zero-max}
-use Rattle.std.proofs.lemmas.List.{drop_all}
-use Rattle.sums.specs.Sums.{each}
+use Rattle.std.proofs.Common.{◌≡◌, ℕ, List, [], ◌∷◌, map, max, unwrap_or, sym, refl, ap, ◌∙◌, rules, arith}
+use Rattle.std.specs.List.{fold, reduce}
+use Rattle.std.proofs.lemmas.Iterator.{YieldsList-from_map, YieldsList-from_slice}
+use Rattle.std.proofs.lemmas.Iterator.Adapters.{option_map_id}
+use Rattle.std.proofs.lemmas.Iterator.Consumers.{max_from_yields_List}
+use Rattle.rows.specs.declared.Row.{Row}
 use Rattle.rows.specs.Walls.{as_wall}
+use Rattle.sums.specs.Sums.{each}
 use Rattle.wall_reader.specs.Charts.{greatest_of}
-use Rattle.wall_reader.proofs.Walls.{no_row, wall_drop}
 use Rattle.wall_reader.proofs.bars.greatest.Goals as goal
 
-pub loop-row-preserved : goal.loop-row-preserved
-unfolding greatest_of
-loop-row-preserved c =
-    let rows = c.args.rows.now in
-    let i = c.loop-row.row-index in
-    let row = get_or rows i no_row in
-    let left = greatest_of (as_wall (drop (i + 1) rows)) in
-    let here : greatest_of (as_wall (drop i rows)) ≡ max row.sum left = ap greatest_of (wall_drop rows i no_row c.loop-row-test.true) in
-    let new : c.max-greatest.result ≡ max row.sum c.loop-row.greatest = c.max-greatest.ensures in
-    let so = c.loop-row.invariant in
-    omega arith
+greatest_fold : (n : ℕ) (rows : List Row) → fold max n (map (λ r. r.sum) rows) ≡ max n (greatest_of (as_wall rows))
+unfolding greatest_of each
+greatest_fold n [] = omega arith
+greatest_fold n (r ∷ rows) = let next = greatest_fold (max n r.sum) rows in omega arith
+
+greatest_reduce : (rows : List Row) → unwrap_or (reduce max (map (λ r. r.sum) rows)) 0 ≡ greatest_of (as_wall rows)
+unfolding greatest_of each
+greatest_reduce [] = refl
+greatest_reduce (r ∷ rows) = greatest_fold r.sum rows
 
 pub returns : goal.returns
-unfolding greatest_of each
 returns c =
-    sym (zero-max c.loop-row.greatest) ∙ sym (ap (λ l. max (greatest_of (as_wall l)) c.loop-row.greatest) (drop_all c.loop-row.row-index c.args.rows.now c.loop-row-test.false))
-    ∙ c.loop-row.invariant
+    c.unwrap_or.ensures
+    ∙ ap (λ o. unwrap_or o 0) (sym (option_map_id c.max.result)
+    ∙ max_from_yields_List c.map.result c.max.result c.max.ensures.ran (YieldsList-from_map _ (λ (r : Row). r.sum) (YieldsList-from_slice c.args.rows.now cc) c.map.ensures.closure (λ x r q k. search rules)))
+    ∙ greatest_reduce c.args.rows.now

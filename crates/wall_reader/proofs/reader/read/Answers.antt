@@ -31,4 +31,4 @@ loop-line-preserved c =
 pub returns : goal.returns
 returns c =
     all_read c.args.text.now c.loop-line.number c.loop-line.sums c.loop-line.invariant.2 (c.loop-line.invariant.1 ∙ c.in_default.ensures.parts)
-    (as_wall (vec_items c.in_ok-rows_in_order.field-0)) c.in_ok-rows_in_order.ensures
+    (as_wall (vec_items c.in_ok-listed.field-0)) c.in_ok-listed.ensures

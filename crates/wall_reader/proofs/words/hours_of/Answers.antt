@@ -1,4 +1,4 @@
-use Rattle.std.proofs.Common.{◌≡◌, ◌-◌, eqb, length, get_or, take, drop, sym, ap, ◌∙◌}
+use Rattle.std.proofs.Common.{◌≡◌, ◌-◌, eqb, length, get_or, take, drop, sym, ap, ◌∙◌, rules}
 use Rattle.std.proofs.lemmas.List.{take_rest}
 use Rattle.std.proofs.lemmas.Bool.{cond-true, eq-eqb}
 use Rattle.text.specs.Text.{Bytes, before, from, decimal}
@@ -10,12 +10,10 @@ two_dots : (w front back : Bytes) → front ≡ before (λ b. eqb b 46) w → ba
 two_dots w front back f b dot =
     (λ i. hours_at (sym f i) (sym b i)) ∙ cond-true _ _ _ (eq-eqb _ 46 dot) ∙ ap (λ l. hours_between (decimal front) (decimal l)) (sym (take_rest back 2))
 
-pub returns-in_default-decimal-2 : goal.returns-in_default-decimal-2
-returns-in_default-decimal-2 c =
-    sym (two_dots c.args.word.now c.until_dot.result.0.now c.until_dot.result.1.now c.until_dot.ensures.front c.until_dot.ensures.back c.if-second-ne46.false
-    ∙ (λ i. hours_between (sym c.in-Some.ensures i) (sym c.in_default-decimal-2.ensures i)))
-
 pub returns : goal.returns
 returns c =
-    sym (two_dots c.args.word.now c.until_dot.result.0.now c.until_dot.result.1.now c.until_dot.ensures.front c.until_dot.ensures.back c.if-second-ne46.false
-    ∙ (λ i. hours_between (sym c.in-Some.ensures i) (sym c.in-Some-decimal.ensures i)))
+    let front = c.until_dot.result.0.now in
+    let back = c.until_dot.result.1.now in
+    let dot : get_or back 1 0 ≡ 46 = search rules in
+    sym (two_dots c.args.word.now front back c.until_dot.ensures.front c.until_dot.ensures.back dot
+    ∙ (λ i. hours_between ((sym c.decimal.ensures ∙ c.in-Some-Some.is-0) i) ((sym c.decimal-2.ensures ∙ c.in-Some-Some.is-1) i)))
