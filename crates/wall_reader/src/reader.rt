@@ -6,7 +6,7 @@ use crate::mistake::WallMistake;
 use rows::{Row, Sums, listed};
 use std::alloc::Global;
 use std::collections::BTreeMap;
-use text::first_line;
+use text::Lines;
 
 // A row more, of the line with this number.
 fn take_row(sums: &mut Sums, line: u64, row: Row) -> Result<(), WallMistake>
@@ -43,12 +43,8 @@ pub fn read(heap: Global, text: &str) -> Result<Vec<Row>, WallMistake>
     ensures { ReadSays text.now result }
 {
     let mut sums = BTreeMap::new(heap);
-    let mut rest = text.as_bytes();
-    let mut number: u64 = 0;
-    while let Some((line, after)) = first_line(rest) {
-        number += 1;
-        take_line(&mut sums, number, line)?;
-        rest = after;
+    for (index, line) in Lines::new(text.as_bytes()).enumerate() {
+        take_line(&mut sums, index as u64 + 1, line)?;
     }
     Ok(listed(heap, &sums)?)
 }

@@ -1,11 +1,10 @@
-use Rattle.std.proofs.Common.{◌≡◌, ◌+◌, ◌≤◌, length, drop}
-use Rattle.text.specs.Text.{lines}
+use Rattle.std.proofs.Common.{◌≡◌, drop}
+use Rattle.std.specs.Iterator.Adapters.{enumerate_source, enumerate_count}
+use Rattle.text.specs.Text.{lines, lines_left}
 use Rattle.wall_reader.proofs.Reading.{SoFar}
 use Rattle.wall_reader.proofs.reader.read.Given as goal
 
-abbrev pub invariant-loop-line : goal.invariant-loop-line
-invariant-loop-line l =
-    (l.number + length l.rest ≤ length l.text) × (drop l.number (lines l.text) ≡ lines l.rest) × SoFar (lines l.text) l.number l.sums
-
-abbrev pub decreases-loop-line : goal.decreases-loop-line
-decreases-loop-line l = length l.rest
+abbrev pub invariant-loop-index : goal.invariant-loop-index
+invariant-loop-index l =
+    (drop (enumerate_count l.index-iterator) (lines l.text) ≡ lines_left (enumerate_source l.index-iterator))
+    × SoFar (lines l.text) (enumerate_count l.index-iterator) l.sums
