@@ -1,11 +1,11 @@
 // What outlives a kill: a file for each drawer, and one for how much of the row is released.
 use crate::files::released;
-use anyhow::anyhow;
+use anyhow::{anyhow, ensure};
 use hut::{Hut, Text};
 use machine::DRAWERS;
 use std::fs::File;
 use std::io::{ErrorKind, Write};
-use std::{fmt, fs, io};
+use std::{fs, io};
 
 #[derive(Drop)]
 pub struct Disk {
@@ -17,22 +17,16 @@ fn read(rt: &HostRuntime, path: &str) -> anyhow::Result<Option<Vec<u8>>> {
     match fs::read(rt, path) {
         Ok(bytes) => Ok(Some(bytes)),
         Err(error) if error.kind() == ErrorKind::NotFound => Ok(None),
-        Err(error) => Err(anyhow!(format!(in rt.alloc(); "{path} cannot be read: {error}")?)),
+        Err(error) => Err(anyhow!("{path} cannot be read: {error}")),
     }
 }
 
 impl Disk {
     pub fn open(rt: &HostRuntime, folder: &str) -> anyhow::Result<Disk> {
-        let heap = rt.alloc();
-        let is_folder = match fs::metadata(rt, folder) {
-            Ok(metadata) => metadata.is_dir(),
-            Err(_) => false,
-        };
-        if !is_folder {
-            return Err(anyhow!(format!(in heap; "there is no folder {folder} for the drawers")?));
-        }
+        let is_folder = fs::metadata(rt, folder).is_ok_and(|metadata| metadata.is_dir());
+        ensure!(is_folder, "there is no folder {folder} for the drawers");
         Ok(Disk {
-            folder: format!(in heap; "{folder}")?,
+            folder: format!(in rt.alloc(); "{folder}")?,
         })
     }
 
@@ -43,12 +37,9 @@ impl Disk {
         let Some(bytes) = read(rt, path.as_str())? else {
             return Ok(Text::empty(heap));
         };
-        match Text::new(heap, bytes.as_slice())? {
-            Some(text) => Ok(text),
-            None => Err(anyhow!(format!(in heap;
-                "{path} is no drawer: it has more than 4096 bytes"
-            )?)),
-        }
+        Text::new(heap, bytes.as_slice())?.ok_or_else(|| anyhow!(
+            "{path} is no drawer: it has more than 4096 bytes"
+        ))
     }
 
     fn released(&self, rt: &HostRuntime) -> anyhow::Result<u64> {
@@ -58,25 +49,20 @@ impl Disk {
         let Some(bytes) = read(rt, path.as_str())? else {
             return Ok(0);
         };
-        match released(bytes.as_slice()) {
-            Some(released) => Ok(released),
-            None => Err(anyhow!(format!(in heap; "{path} does not hold one number")?)),
-        }
+        released(bytes.as_slice()).ok_or_else(|| anyhow!("{path} does not hold one number"))
     }
 
     // The machine as it wakes on these files.
     pub fn boot(&self, rt: &HostRuntime, machine: u64, readings: usize) -> anyhow::Result<Hut> {
         let heap = rt.alloc();
         let released = self.released(rt)?;
-        if released > readings as u64 {
-            return Err(anyhow!(format!(in heap;
-                "{released} readings are released, and the gauge's file has only {readings}"
-            )?));
-        }
-        let mut drawers = Vec::new(heap);
-        for drawer in 0..DRAWERS {
-            drawers.push(self.drawer(rt, drawer)?)?;
-        }
+        ensure!(
+            released <= readings as u64,
+            "{released} readings are released, and the gauge's file has only {readings}"
+        );
+        let drawers = (0..DRAWERS)
+            .map(|drawer| self.drawer(rt, drawer))
+            .try_collect(heap)?;
         Ok(Hut::boot(heap, machine, drawers, released)?)
     }
 
@@ -86,10 +72,9 @@ impl Disk {
         let folder = self.folder.as_str();
         let beside = format!(in heap; "{folder}/{name}.new")?;
         let place = format!(in heap; "{folder}/{name}")?;
-        if let Err(error) = put(rt, folder, beside.as_str(), place.as_str(), bytes) {
-            return Err(anyhow!(format!(in heap; "{place} cannot be written: {error}")?));
-        }
-        Ok(())
+        put(rt, folder, beside.as_str(), place.as_str(), bytes).map_err(|error| anyhow!(
+            "{place} cannot be written: {error}"
+        ))
     }
 
     pub fn keep(&self, rt: &HostRuntime, drawer: u64, text: &[u8]) -> anyhow::Result<()> {

@@ -26,9 +26,7 @@ pub fn whole_rows(wall: &[u8]) -> usize
     ensures ends { EndsAt wall.now result }
     ensures last { NoEndFrom wall.now result }
 {
-    let mut end = wall.len();
-    while end > 0 && wall[end - 1] != b'\n' {
-        end -= 1;
-    }
-    end
+    wall.iter()
+        .rposition(|byte| *byte == b'\n')
+        .map_or(0, |at| at + 1)
 }

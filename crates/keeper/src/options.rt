@@ -1,8 +1,9 @@
 // The words behind `station`.
 use machine::MACHINES;
-use std::error::Error;
 use std::fmt;
+use std::str::FromStr;
 use text::decimal;
+use thiserror::Error;
 
 // An option that takes a value.
 #[derive(Clone, Copy, PartialEq, Eq, Debug)]
@@ -12,54 +13,46 @@ pub enum Name {
     Wall,
 }
 
-#[derive(Clone, Copy, PartialEq, Eq, Debug)]
+#[derive(Clone, Copy, PartialEq, Eq, Debug, Error)]
 pub enum UsageError {
+    #[error("there is no such option")]
     UnknownOption,
+    #[error("{0} wants a value")]
     MissingValue(Name),
+    #[error("{0} is missing")]
     Missing(Name),
+    #[error("{0} was given before")]
     Twice(Name),
+    #[error("the machine's number is missing")]
     MissingMachine,
+    #[error("the machine's number was given before")]
     TwoMachines,
+    #[error("a machine's number is 0 to 7")]
     NotAMachine,
 }
 
-impl Name {
-    fn text(self) -> &'static str {
-        match self {
+impl fmt::Display for Name {
+    fn fmt<W: fmt::Write>(&self, f: &mut fmt::Formatter<W>) -> fmt::Result {
+        f.write_str(match self {
             Name::Drawers => "--drawers",
             Name::Gauge => "--gauge",
             Name::Wall => "--wall",
-        }
-    }
-
-    fn of(word: &str) -> Option<Name> {
-        if word == "--drawers" {
-            Some(Name::Drawers)
-        } else if word == "--gauge" {
-            Some(Name::Gauge)
-        } else if word == "--wall" {
-            Some(Name::Wall)
-        } else {
-            None
-        }
+        })
     }
 }
 
-impl fmt::Display for UsageError {
-    fn fmt<W: fmt::Write>(&self, f: &mut fmt::Formatter<W>) -> fmt::Result {
-        match self {
-            UsageError::UnknownOption => f.write_str("there is no such option"),
-            UsageError::MissingValue(name) => write!(f, "{} wants a value", name.text()),
-            UsageError::Missing(name) => write!(f, "{} is missing", name.text()),
-            UsageError::Twice(name) => write!(f, "{} was given before", name.text()),
-            UsageError::MissingMachine => f.write_str("the machine's number is missing"),
-            UsageError::TwoMachines => f.write_str("the machine's number was given before"),
-            UsageError::NotAMachine => f.write_str("a machine's number is 0 to 7"),
+impl FromStr for Name {
+    type Err = UsageError;
+
+    fn from_str(word: &str) -> Result<Name, UsageError> {
+        match word {
+            "--drawers" => Ok(Name::Drawers),
+            "--gauge" => Ok(Name::Gauge),
+            "--wall" => Ok(Name::Wall),
+            _ => Err(UsageError::UnknownOption),
         }
     }
 }
-
-impl Error for UsageError {}
 
 // Which machine, and where its files are.
 #[derive(Drop)]
@@ -100,16 +93,11 @@ impl Said {
     }
 
     fn set_machine(&mut self, word: &str) -> Result<(), UsageError> {
-        if word.starts_with("-") {
-            return Err(UsageError::UnknownOption);
-        }
         if self.machine.is_some() {
             return Err(UsageError::TwoMachines);
         }
-        match decimal(word.as_bytes()) {
-            Some(machine) if machine < MACHINES => self.machine = Some(machine),
-            _ => return Err(UsageError::NotAMachine),
-        }
+        let machine = decimal(word.as_bytes()).filter(|machine| *machine < MACHINES);
+        self.machine = Some(machine.ok_or(UsageError::NotAMachine)?);
         Ok(())
     }
 
@@ -138,21 +126,19 @@ impl Request {
             gauge: None,
             wall: None,
         };
-        let mut wanted = None;
-        for word in words {
-            if let Some(name) = wanted {
-                said.set(name, word)?;
-                wanted = None;
-            } else if word.as_str() == "--help" {
+        let mut words = words.into_iter();
+        while let Some(word) = words.next() {
+            let word = word.as_str();
+            if word == "--help" {
                 return Ok(Request::Help);
-            } else if let Some(name) = Name::of(word.as_str()) {
-                wanted = Some(name);
-            } else {
-                said.set_machine(word.as_str())?;
             }
-        }
-        if let Some(name) = wanted {
-            return Err(UsageError::MissingValue(name));
+            if word.starts_with("-") {
+                let name = word.parse()?;
+                let value = words.next().ok_or(UsageError::MissingValue(name))?;
+                said.set(name, value)?;
+            } else {
+                said.set_machine(word)?;
+            }
         }
         Ok(Request::Run(said.finished()?))
     }

@@ -5,7 +5,6 @@ use crate::own_gauge::readings;
 use crate::wall::Wall;
 use anyhow::anyhow;
 use hut::{Desk, Effect, Hut};
-use std::fmt;
 use sums::Reading;
 
 #[derive(Drop)]
@@ -72,13 +71,13 @@ impl Station {
 
     // Tells the machine what a line of its wires says, and lets it work.
     pub fn hear(&mut self, rt: &HostRuntime, line: &str) -> anyhow::Result<()> {
-        let heap = rt.alloc();
         self.lines = self.lines.saturating_add(1);
         let number = self.lines;
-        match wire::hear(heap, line.as_bytes()) {
-            Ok(Some(event)) => self.hut.hear(event),
-            Ok(None) => {}
-            Err(error) => return Err(anyhow!(format!(in heap; "wires, line {number}: {error}")?)),
+        let heard = wire::hear(rt.alloc(), line.as_bytes()).map_err(|error| anyhow!(
+            "wires, line {number}: {error}"
+        ))?;
+        if let Some(event) = heard {
+            self.hut.hear(event);
         }
         self.work(rt, u64::MAX)?;
         Ok(())

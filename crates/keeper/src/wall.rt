@@ -3,8 +3,8 @@ use crate::files::whole_rows;
 use anyhow::anyhow;
 use rows::Row;
 use std::fs::{File, OpenOptions};
+use std::io;
 use std::io::{Read, Write};
-use std::{fmt, fs, io};
 
 #[derive(Drop)]
 pub struct Wall {
@@ -36,26 +36,21 @@ fn append(file: &mut File, line: &[u8]) -> io::Result<()> {
 
 impl Wall {
     pub fn open(rt: &HostRuntime, path: &str) -> anyhow::Result<Wall> {
-        let heap = rt.alloc();
-        match opened(rt, path) {
-            Ok(file) => Ok(Wall {
-                path: format!(in heap; "{path}")?,
-                file,
-            }),
-            Err(error) => Err(anyhow!(format!(in heap;
-                "the wall {path} cannot be opened: {error}"
-            )?)),
-        }
+        let file = opened(rt, path).map_err(|error| anyhow!(
+            "the wall {path} cannot be opened: {error}"
+        ))?;
+        Ok(Wall {
+            path: format!(in rt.alloc(); "{path}")?,
+            file,
+        })
     }
 
     // The row is on the wall when this returns.
     pub fn tell(&mut self, rt: &HostRuntime, row: Row) -> anyhow::Result<()> {
-        let heap = rt.alloc();
-        let line = format!(in heap; "{row}\n")?;
-        if let Err(error) = append(&mut self.file, line.as_str().as_bytes()) {
-            let path = self.path.as_str();
-            return Err(anyhow!(format!(in heap; "the wall {path} cannot be written: {error}")?));
-        }
-        Ok(())
+        let line = format!(in rt.alloc(); "{row}\n")?;
+        let path = self.path.as_str();
+        append(&mut self.file, line.as_str().as_bytes()).map_err(|error| anyhow!(
+            "the wall {path} cannot be written: {error}"
+        ))
     }
 }

@@ -4,8 +4,8 @@
 #[cfg(test)]
 mod tests {
     use keeper::{Options, Request, Station};
+    use std::fs;
     use std::test::Fail;
-    use std::{fmt, fs};
 
     const RIVER: &str = "gauge 0\n10 1 4\n50 2 0\n130 1 7\n170 1 5\n390 1023 4294967295\n";
 
@@ -44,12 +44,7 @@ mod tests {
         if !comparison.untold.is_empty() {
             return Err(Fail::new("a row is missing on the wall"));
         }
-        let mut lines: usize = 0;
-        for byte in text.as_bytes() {
-            if *byte == b'\n' {
-                lines = lines.saturating_add(1);
-            }
-        }
+        let lines = text.bytes().filter(|byte| *byte == b'\n').count();
         Ok(lines.saturating_sub(rows.len()))
     }
 

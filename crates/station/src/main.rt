@@ -2,8 +2,8 @@
 #![tactic(auto)]
 
 use keeper::{Options, Request, Station};
+use std::env;
 use std::process::ExitCode;
-use std::{env, fmt};
 
 const USAGE: &str = "usage: station MACHINE --drawers DIR --gauge FILE --wall FILE
 
@@ -29,10 +29,7 @@ fn main(rt: HostRuntime) -> ExitCode {
 }
 
 fn run(rt: &HostRuntime) -> anyhow::Result<()> {
-    let mut words = Vec::new(rt.alloc());
-    for word in env::args(rt)?.skip(1) {
-        words.push(word)?;
-    }
+    let words = env::args(rt)?.skip(1).collect(rt.alloc())?;
     match Request::read(words)? {
         Request::Help => {
             println!(rt; "{USAGE}")?;
