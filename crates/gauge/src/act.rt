@@ -1,4 +1,4 @@
-// What a machine does.
+// What a machine does. Bytes are told by their number: a slice would keep the buffer lent while the act is done.
 #[derive(Clone, Copy)]
 pub enum Act {
     // The next reading.

@@ -14,7 +14,7 @@ use store::{PageSet, Root};
 use sums::cells::PAGES;
 
 // The roll is full: the first page is kept, if there is an hour at hand.
-pub(crate) fn fill(memory: &mut Memory, out: &mut Buffer) -> Act
+pub(crate) fn save_first(memory: &mut Memory, out: &mut Buffer) -> Act
     ensures { Wrote (filled memory.old) result memory.new out.old out.new }
 {
     if memory[BEGUN] == 0 {

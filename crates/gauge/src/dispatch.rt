@@ -9,7 +9,7 @@ use crate::row::{ask, place, release};
 use crate::tell::{note_cursor, tell_next};
 
 // Told to go on, where nothing came. A phase that waits for something else rests. The lent memory keeps the phase as a number, and so no closure.
-pub(crate) fn go_on(memory: &mut Memory, out: &mut Buffer) -> Act
+pub(crate) fn next_act(memory: &mut Memory, out: &mut Buffer) -> Act
     ensures { Wrote (went_on memory.old) result memory.new out.old out.new }
 {
     let Ok(phase) = Phase::try_from(memory[PHASE]) else {

@@ -13,6 +13,7 @@ const FIRST_SET: u8 = 8;
 
 const SECOND_SET: u8 = 16;
 
+// A function and no constant, so that a contract says which drawer it is.
 pub fn root_drawer() -> u8
     ensures { result ≡ root_drawer }
 {
