@@ -7,21 +7,21 @@ use Rattle.machine.specs.Run.{machine_at, with_machine, faulty, set_nth, nth_row
 use Rattle.machine.specs.Entry.{own}
 use Rattle.rows.specs.Walls.{as_told}
 use Rattle.hut.specs.declared.effect.Effect.{Effect}
-use Rattle.hut.specs.declared.effect.Effect.TheVariants.{Asked, Sought, Released, Sent, Kept, Recalled, Told, Rested, Fault}
+use Rattle.hut.specs.declared.effect.Effect.TheVariants.{Released, Sent, Kept, Told, Fault}
 use Rattle.hut.specs.Played.{as_text}
 
--- the world in which machine i is this one and has had this effect
+-- a world in which this is seen of an act of machine i: a row on the wall, a letter on the wires, a fault
+abbrev pub posted : run.World → ℕ → Effect → run.World
+posted w i (Told r) = record { machines = w.machines; wires = w.wires; told = w.told ++ as_told r ∷ []; fault = w.fault }
+posted w i (Sent j t) =
+    record { machines = w.machines; wires = w.wires ++ record { sender = i; reader = j; text = as_text t } ∷ []; told = w.told; fault = w.fault }
+posted w i Fault = faulty w
+posted w i _ = w
+
+-- the world in which machine i is this one and has had this effect; a fault leaves it as it is
 abbrev pub after : run.World → ℕ → run.Machine → Effect → run.World
-after w i x Asked = with_machine w i x
-after w i x (Sought p) = with_machine w i x
-after w i x (Released p) = with_machine w i x
-after w i x (Sent j t) =
-    record { machines = set_nth w.machines i x; wires = w.wires ++ record { sender = i; reader = j; text = as_text t } ∷ []; told = w.told; fault = w.fault }
-after w i x (Kept d) = with_machine w i x
-after w i x (Recalled d) = with_machine w i x
-after w i x (Told r) = record { machines = set_nth w.machines i x; wires = w.wires; told = w.told ++ as_told r ∷ []; fault = w.fault }
-after w i x Rested = with_machine w i x
 after w i x Fault = faulty w
+after w i x f = posted (with_machine w i x) i f
 
 -- in every world in which this is machine i and these are its readings, the act leads to where the effect says
 abbrev pub Does : List given.Reading → ℕ → run.Machine → List ℕ → run.Act → run.Machine → Effect → Type 0
@@ -31,13 +31,8 @@ Does rs i x m a x₁ f = (gs : Gauges) (w : run.World) → nth_row gs i ≡ rs �
 abbrev pub Lasts : run.Machine → run.Machine → Effect → Type 0
 Lasts x x₁ (Kept d) = (x₁.gone ≡ x.gone) × (x₁.slots ≡ set_nth x.slots d (nth_row x₁.slots d))
 Lasts x x₁ (Released p) = (x₁.gone ≡ p) × (x₁.slots ≡ x.slots)
-Lasts x x₁ Asked = (x₁.gone ≡ x.gone) × (x₁.slots ≡ x.slots)
-Lasts x x₁ (Sought p) = (x₁.gone ≡ x.gone) × (x₁.slots ≡ x.slots)
-Lasts x x₁ (Sent j t) = (x₁.gone ≡ x.gone) × (x₁.slots ≡ x.slots)
-Lasts x x₁ (Recalled d) = (x₁.gone ≡ x.gone) × (x₁.slots ≡ x.slots)
-Lasts x x₁ (Told r) = (x₁.gone ≡ x.gone) × (x₁.slots ≡ x.slots)
-Lasts x x₁ Rested = (x₁.gone ≡ x.gone) × (x₁.slots ≡ x.slots)
 Lasts x x₁ Fault = x₁ ≡ x
+Lasts x x₁ _ = (x₁.gone ≡ x.gone) × (x₁.slots ≡ x.slots)
 
 -- both of an act
 abbrev pub Did : List given.Reading → ℕ → run.Machine → List ℕ → run.Act → run.Machine → Effect → Type 0

@@ -2,7 +2,7 @@
 use Rattle.std.specs.Prelude.{◌≡◌, ℕ, List, [], ◌∷◌, Some, None, vec_items, Option}
 use Rattle.sums.specs.Sums.{each}
 use Rattle.machine.specs.Run as run
-use Rattle.machine.specs.Run.{wakes, comes, later, ends, letter, slot, next, machine, at_end, first_reading}
+use Rattle.machine.specs.Run.{wakes, comes, later, ends, letter, slot, next, machine}
 use Rattle.machine.specs.Answers.{act_back}
 use Rattle.machine.specs.Entry.{own}
 use Rattle.machine.specs.declared.Act.{Act}

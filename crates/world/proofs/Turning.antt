@@ -9,10 +9,10 @@ use Rattle.machine.specs.Entry.{own}
 use Rattle.promise.proofs.Induction.{pick_both, goes_more}
 use Rattle.promise.proofs.Others.{by_each_append}
 use Rattle.hut.specs.Played.{as_machine, told_next}
-use Rattle.hut.specs.Effects.{after, Lasts, Turned}
+use Rattle.hut.specs.Effects.{after, posted, Lasts, Turned}
 use Rattle.hut.specs.declared.effect.Effect.{Effect}
 use Rattle.hut.specs.declared.effect.Effect.TheVariants.{Asked, Sought, Released, Sent, Kept, Recalled, Told, Rested, Fault}
-use Rattle.world.specs.Worlds.{posted, Went}
+use Rattle.world.specs.Worlds.{Went}
 use Rattle.hut.specs.declared.hut.Hut.{Hut}
 use Rattle.promise.proofs.Machines.{set_past}
 use Rattle.world.proofs.Huts.{huts_world, machine_past, set_same}

@@ -1,16 +1,14 @@
 -- The world that is played, as one of the definitions.
-use Rattle.std.specs.Prelude.{◌≡◌, ℕ, Bool, true, false, [], ◌∷◌, ◌++◌, vec_items}
+use Rattle.std.specs.Prelude.{◌≡◌, ℕ, Bool, true, false, [], vec_items}
 use Rattle.sums.specs.Sums.{each, Gauges}
 use Rattle.machine.specs.Run as run
 use Rattle.machine.specs.Entry.{own}
 use Rattle.machine.specs.Run.{faulty, machine_at, one_step, happened, works, poke, brings, falls, calm, goes, poked, delivered, by_each, up_to}
-use Rattle.rows.specs.Walls.{as_told, as_wall}
+use Rattle.rows.specs.Walls.{as_wall}
 use Rattle.river.specs.declared.model.Item.{Item}
 use Rattle.river.specs.declared.model.Item.TheVariants.{Works, Poke, Brings, Falls, Calm}
 use Rattle.world.specs.declared.world.World.{World}
-use Rattle.hut.specs.declared.effect.Effect.{Effect}
-use Rattle.hut.specs.declared.effect.Effect.TheVariants.{Asked, Sought, Released, Sent, Kept, Recalled, Told, Rested, Fault}
-use Rattle.hut.specs.Played.{as_machine, as_text}
+use Rattle.hut.specs.Played.{as_machine}
 use Rattle.world.specs.Posts.{as_letter}
 
 abbrev pub as_world : World → run.World
@@ -20,19 +18,6 @@ as_world w = record {
   told = as_wall (vec_items w.told);
   fault = w.fault;
 }
-
--- the world after what was seen of an act of machine i
-abbrev pub posted : run.World → ℕ → Effect → run.World
-posted w i (Told r) = record { machines = w.machines; wires = w.wires; told = w.told ++ as_told r ∷ []; fault = w.fault }
-posted w i (Sent j t) =
-    record { machines = w.machines; wires = w.wires ++ record { sender = i; reader = j; text = as_text t } ∷ []; told = w.told; fault = w.fault }
-posted w i Fault = faulty w
-posted w i Asked = w
-posted w i (Sought p) = w
-posted w i (Released p) = w
-posted w i (Kept d) = w
-posted w i (Recalled d) = w
-posted w i Rested = w
 
 -- one step of a machine, where it does not rest
 abbrev pub Went : Gauges → run.World → ℕ → Bool → run.World → Type 0

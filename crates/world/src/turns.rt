@@ -1,18 +1,28 @@
 // What happens to the world: machines work, letters come, lightning strikes, calm.
 ghost use Rattle.std.specs.Prelude.{◌≡◌, IfOk, OnOk};
 ghost use Rattle.machine.specs.Entry.{own};
-ghost use Rattle.machine.specs.Run.{delivered, fallen, goes, round, calm, new_world};
-ghost use Rattle.sums.specs.Readings.{as_gauges};
+ghost use Rattle.machine.specs.Run.{nth_row, delivered, fallen, goes, round, calm, new_world};
+ghost use Rattle.sums.specs.Readings.{as_row, as_gauges};
 ghost use Rattle.world.specs.Worlds.{as_world, Went, took_place, all_poked, all_brought};
 
 use crate::tally::{Kind, Tally};
 use crate::wires::{cut, take_letter};
-use crate::world::{World, row_of};
+use crate::world::World;
 use hut::{Desk, Hut, Pending};
 use machine::MACHINES;
 use river::Item;
 use std::alloc::{AllocError, Global};
 use sums::Reading;
+
+// The row of gauge i, empty where there is no such gauge.
+fn row_of(gauges: &[Vec<Reading>], i: u64) -> &[Reading]
+    ensures { as_row result.now ≡ nth_row (as_gauges gauges.now) i }
+{
+    match gauges.get(i as usize) {
+        Some(row) => row.as_slice(),
+        None => &[],
+    }
+}
 
 // Heap and gauges go along as two arguments: bound in one, they would only have a longer name in each contract.
 impl World {

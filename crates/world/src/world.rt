@@ -1,15 +1,14 @@
 // Eight machines in their huts, the wires between them, and the wall.
 ghost use Rattle.std.specs.Prelude.{◌≡◌, OnOk};
-ghost use Rattle.machine.specs.Run.{poked, nth_row};
-ghost use Rattle.sums.specs.Readings.{as_row, as_gauges};
-ghost use Rattle.world.specs.Worlds.{as_world, posted};
+ghost use Rattle.machine.specs.Run.{poked};
+ghost use Rattle.hut.specs.Effects.{posted};
+ghost use Rattle.world.specs.Worlds.{as_world};
 
 use crate::post::Letter;
 use crate::tally::Tally;
 use hut::{Desk, Effect, Hut, Pending};
 use rows::Row;
 use std::alloc::AllocError;
-use sums::Reading;
 
 #[derive(Drop)]
 pub struct World {
@@ -22,16 +21,6 @@ pub struct World {
     pub fault: bool,
     pub(crate) desk: Desk,
     pub tally: Tally,
-}
-
-// The row of gauge i, empty where there is no such gauge.
-pub(crate) fn row_of(gauges: &[Vec<Reading>], i: u64) -> &[Reading]
-    ensures { as_row result.now ≡ nth_row (as_gauges gauges.now) i }
-{
-    match gauges.get(i as usize) {
-        Some(row) => row.as_slice(),
-        None => &[],
-    }
 }
 
 impl World {

@@ -1,7 +1,8 @@
 use Rattle.std.proofs.Common.{◌≤◌, length, vec_items, refl, ap, ◌∙◌}
 use Rattle.sums.specs.Readings.{as_gauges}
 use Rattle.hut.specs.Played.{as_machine}
-use Rattle.world.specs.Worlds.{as_world, posted}
+use Rattle.hut.specs.Effects.{posted}
+use Rattle.world.specs.Worlds.{as_world}
 use Rattle.world.proofs.Huts.{lent, none_lent, hut_set, hut_back, machine_past}
 use Rattle.world.proofs.Turning.{went}
 use Rattle.world.proofs.world.World.step.Goals as goal

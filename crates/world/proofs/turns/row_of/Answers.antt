@@ -6,7 +6,7 @@ use Rattle.sums.specs.Readings.{as_row}
 use Rattle.sums.specs.declared.reading.Reading.{Reading}
 use Rattle.sums.proofs.Eaches.{length_each}
 use Rattle.hut.proofs.Eaches.{row_at, row_past}
-use Rattle.world.proofs.world.row_of.Goals as goal
+use Rattle.world.proofs.turns.row_of.Goals as goal
 
 abbrev row : Vec Reading Global → List given.Reading
 row v = as_row (vec_items v)
