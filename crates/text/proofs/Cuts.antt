@@ -1,12 +1,11 @@
 -- Parts of a text. Assumes nothing.
-use Rattle.std.proofs.Common.{◌≡◌, ℕ, ◌<◌, ◌≤◌, Bool, false, cond, not, eqb, ltb, List, [], ◌∷◌, length, get_or, take, drop, Some, None, Option, sym, refl, ap, ◌∙◌, ⊎_elim, arith}
+use Rattle.std.proofs.Common.{◌≡◌, ℕ, ◌<◌, ◌≤◌, Bool, false, cond, not, eqb, ltb, List, [], ◌∷◌, length, get_or, take, drop, Some, None, Option, refl, ap, ◌∙◌, arith}
 use Rattle.std.proofs.Math.Numerals.{one-add}
 use Rattle.std.specs.List.{position_or_len}
 use Rattle.std.specs.Option.{unwrap_or}
 use Rattle.std.proofs.lemmas.Grind.{common_steps}
 use Rattle.std.proofs.lemmas.List.Sums.{prefix_len-le-length}
-use Rattle.std.proofs.lemmas.Bool.{cond-true, cond-false, cond_both, cases_Bool, not_from_false}
-use Rattle.text.specs.Text.{blank, before, from, in_front, lines, words}
+use Rattle.text.specs.Text.{blank, before, from, lines, words}
 
 module _ (stop : ℕ → Bool) where
   -- where a part ends: at the first byte that stops, or where the bytes end
@@ -16,12 +15,12 @@ module _ (stop : ℕ → Bool) where
   before_is : (bs : List ℕ) → take (cut_at bs) bs ≡ before stop bs
   unfolding before
   before_is [] = refl
-  before_is (b ∷ bs) = ⊎_elim (λ e. rw e refl) (λ e. rw e (rw (one-add (cut_at bs)) (ap (λ l. b ∷ l) (before_is bs)))) (cases_Bool (stop b))
+  before_is (b ∷ bs) = grind (arith, common_steps, before_is bs, one-add (cut_at bs))
 
   from_is : (bs : List ℕ) → drop (cut_at bs) bs ≡ from stop bs
   unfolding from
   from_is [] = refl
-  from_is (b ∷ bs) = ⊎_elim (λ e. rw e refl) (λ e. rw e (rw (one-add (cut_at bs)) (from_is bs))) (cases_Bool (stop b))
+  from_is (b ∷ bs) = grind (arith, common_steps, from_is bs, one-add (cut_at bs))
 
   -- what `position` finds, or the length
   found : (bs : List ℕ) (r : Option ℕ) → r ≡ cond (ltb (cut_at bs) (length bs)) (Some (cut_at bs)) None → unwrap_or r (length bs) ≡ cut_at bs
@@ -34,7 +33,7 @@ module _ (stop : ℕ → Bool) where
   pub from_length : (bs : List ℕ) → length (from stop bs) ≤ length bs
   unfolding from
   from_length [] = omega arith
-  from_length (b ∷ bs) = cond_both (stop b) (b ∷ bs) (from stop bs) (λ l. length l ≤ length (b ∷ bs)) (λ e. omega arith) (λ e. let h = from_length bs in omega arith)
+  from_length (b ∷ bs) = grind (arith, from_length bs)
 
 abbrev pub line_feed : ℕ → Bool
 line_feed b = eqb b 10
@@ -43,8 +42,8 @@ line_feed b = eqb b 10
 pub lines_cut : (bs : List ℕ) → 0 < length bs → lines bs ≡ before line_feed bs ∷ lines (drop 1 (from line_feed bs))
 unfolding lines before from
 lines_cut [] h = absurd (omega arith)
-lines_cut (b ∷ []) h = ⊎_elim (λ e. rw e refl) (λ e. rw e refl) (cases_Bool (eqb b 10))
-lines_cut (b ∷ c ∷ cs) h = ⊎_elim (λ e. rw e refl) (λ e. rw e (ap (in_front b) (lines_cut (c ∷ cs) (omega arith)))) (cases_Bool (eqb b 10))
+lines_cut (b ∷ []) h = grind (arith, common_steps)
+lines_cut (b ∷ c ∷ cs) h = let more = lines_cut (c ∷ cs) (omega arith) in grind (arith, common_steps, more)
 
 abbrev pub solid : ℕ → Bool
 solid b = not (blank b)
@@ -52,24 +51,16 @@ solid b = not (blank b)
 pub words_solid : (bs : List ℕ) → words (from solid bs) ≡ words bs
 unfolding words from
 words_solid [] = refl
-words_solid (b ∷ bs) = ⊎_elim (λ e. rw e (words_solid bs)) (λ e. ap words (cond-true _ _ _ (not_from_false _ e))) (cases_Bool (blank b))
+words_solid (b ∷ bs) = grind (arith, common_steps, words_solid bs)
 
 pub first_solid : (bs : List ℕ) → 0 < length (from solid bs) → blank (get_or (from solid bs) 0 0) ≡ false
 unfolding from
 first_solid [] h = absurd (omega arith)
-first_solid (b ∷ bs) h = ⊎_elim (λ e. rw e (first_solid bs (rw e at h))) (λ e. rw e e) (cases_Bool (blank b))
+first_solid (b ∷ bs) h = grind (arith, common_steps, first_solid bs)
 
 -- the first word, and those of what follows it
 pub words_cut : (bs : List ℕ) → 0 < length bs → blank (get_or bs 0 0) ≡ false → words bs ≡ before blank bs ∷ words (from blank bs)
 unfolding words before from
 words_cut [] h e = absurd (omega arith)
 words_cut (b ∷ []) h e = rw e refl
-words_cut (b ∷ c ∷ cs) h e =
-    let front : before blank (b ∷ c ∷ cs) ≡ b ∷ before blank (c ∷ cs) = cond-false _ _ _ e in
-    let back : from blank (b ∷ c ∷ cs) ≡ from blank (c ∷ cs) = cond-false _ _ _ e in
-    ⊎_elim
-    (λ f. let only : before blank (b ∷ c ∷ cs) ≡ b ∷ [] = front ∙ ap (λ l. b ∷ l) (cond-true _ _ _ f) in
-    let rest : from blank (b ∷ c ∷ cs) ≡ c ∷ cs = back ∙ cond-true _ _ _ f in
-    cond-false _ _ _ e ∙ cond-true _ _ _ f ∙ (λ i. sym only i ∷ words (sym rest i)))
-    (λ f. cond-false _ _ _ e ∙ cond-false _ _ _ f ∙ ap (in_front b) (words_cut (c ∷ cs) (omega arith) f) ∙ (λ i. sym front i ∷ words (sym back i)))
-    (cases_Bool (blank c))
+words_cut (b ∷ c ∷ cs) h e = grind (arith, common_steps, words_cut (c ∷ cs) (omega arith))

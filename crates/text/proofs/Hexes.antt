@@ -1,10 +1,10 @@
 -- Bytes as digits, two at a time. Assumes nothing.
-use Rattle.std.proofs.Common.{◌≡◌, ℕ, suc, ◌+◌, ◌/◌, ◌%◌, ◌<◌, ◌≤◌, false, leb, [], ◌∷◌, ◌++◌, length, get_or, drop, Some, Ok, Err, Result, sym, refl, ap, ap₂, subst, ◌∙◌, ⊎_elim, arith}
+use Rattle.std.proofs.Common.{◌≡◌, ℕ, suc, ◌+◌, ◌/◌, ◌%◌, ◌<◌, ◌≤◌, false, [], ◌∷◌, ◌++◌, length, get_or, drop, Some, Ok, Err, Result, sym, refl, ap, ap₂, subst, ◌∙◌, arith}
 use Rattle.std.specs.Fmt.{AppendsText, digits, digits_output, format_spec, padded_integral, radix_prefix, shown_prefix, styled_digits_output}
 use Rattle.std.specs.Option.{option_map}
 use Rattle.std.proofs.lemmas.Fmt as fmt
-use Rattle.std.proofs.lemmas.List.{drop_more, drop_all, append_assoc, append-nil, nil_from_length}
-use Rattle.std.proofs.lemmas.Bool.{cond-true, cond-false, and_from, and_right, cases_lt, lt-ltb, le-ltb, le-leb, lt-leb}
+use Rattle.std.proofs.lemmas.List.{drop_more, drop_all, append_assoc, nil_from_length}
+use Rattle.std.proofs.lemmas.Grind.{common_steps}
 use Rattle.text.specs.declared.base16.HexError.{HexError}
 use Rattle.text.specs.declared.base16.HexError.TheVariants.{OddLength}
 use Rattle.text.specs.Text.{Bytes}
@@ -25,12 +25,7 @@ behind_more bs b (Err e) = refl
 
 -- a digit is read as the value that it writes
 digit_read : (n : ℕ) → n < 16 → hex_value (hex_digit n) ≡ Some n
-digit_read n h =
-    ⊎_elim
-    (λ lt. ap hex_value (cond-true _ _ _ (lt-ltb n 10 lt)) ∙ cond-true _ _ _ (and_from _ _ (le-leb 48 (48 + n) (omega arith)) (le-leb (48 + n) 57 (omega arith))) ∙ ap Some (omega arith))
-    (λ ge. ap hex_value (cond-false _ _ _ (le-ltb n 10 ge)) ∙ cond-false _ _ _ (and_right (leb 48 (87 + n)) _ (lt-leb (87 + n) 57 (omega arith)))
-    ∙ cond-true _ _ _ (and_from _ _ (le-leb 97 (87 + n) (omega arith)) (le-leb (87 + n) 102 (omega arith))) ∙ ap Some (omega arith))
-    (cases_lt n 10)
+digit_read n h = grind (arith, common_steps)
 
 pub read_back : (bs : Bytes) → ((k : ℕ) → k < length bs → get_or bs k 0 < 256) → unhex (hex bs) ≡ Ok bs
 unfolding hex unhex
@@ -45,11 +40,11 @@ read_back (b ∷ bs) small =
 pub hex_more : (bs done : Bytes) (i : ℕ) → i < length bs → done ++ hex (drop i bs) ≡ hex bs →
     (done ++ hex_digit (get_or bs i 0 / 16) ∷ hex_digit (get_or bs i 0 % 16) ∷ []) ++ hex (drop (i + 1) bs) ≡ hex bs
 unfolding hex
-hex_more bs done i h so = append_assoc done _ (hex (drop (i + 1) bs)) ∙ ap (λ l. done ++ hex l) (sym (drop_more bs i 0 h)) ∙ so
+hex_more bs done i h so = grind (arith, common_steps, drop_more bs i 0 h)
 
 pub hex_done : (bs done : Bytes) (i : ℕ) → length bs ≤ i → done ++ hex (drop i bs) ≡ hex bs → done ≡ hex bs
 unfolding hex
-hex_done bs done i h so = sym (append-nil done) ∙ ap (λ l. done ++ hex l) (sym (drop_all i bs h)) ∙ so
+hex_done bs done i h so = grind (arith, common_steps, drop_all i bs h)
 
 -- two digits more are read
 pub unhex_more : (bs : Bytes) → 2 ≤ length bs → unhex bs ≡ led (hex_byte (get_or bs 0 0) (get_or bs 1 0)) (unhex (drop 2 bs))

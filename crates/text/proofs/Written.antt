@@ -1,10 +1,11 @@
 -- Words that are written, read back. Assumes nothing.
-use Rattle.std.proofs.Common.{◌≡◌, ℕ, ◌<◌, ◌≤◌, Bool, true, not, ◌&&◌, leb, [], ◌∷◌, ◌++◌, length, Some, refl, ap, ◌∙◌, arith, rules}
+use Rattle.std.proofs.Common.{◌≡◌, ℕ, ◌<◌, Bool, true, not, ◌&&◌, [], ◌∷◌, ◌++◌, length, Some, refl, ap, ◌∙◌, arith, rules}
 use Rattle.std.specs.Fmt as written
 use Rattle.std.proofs.lemmas.Fmt.{decimal_nonempty, digits_decimal, digits_value-decimal}
 use Rattle.std.proofs.lemmas.Str.Parse.{IsNumeralModel, numerals_by_fold}
-use Rattle.std.proofs.lemmas.Bool.{and_parts, and_from, cond-true, cond-false, leb-true, lt-ltb, not-true, not_from_false}
-use Rattle.text.specs.Text.{Bytes, blank, in_front, words, digit, all_digits, value, decimal}
+use Rattle.std.proofs.lemmas.Grind.{common_steps}
+use Rattle.std.proofs.lemmas.Bool.{and_from, cond-true, lt-ltb}
+use Rattle.text.specs.Text.{Bytes, blank, words, digit, all_digits, value, decimal}
 
 -- no byte of it is blank
 unfoldable pub solid_all : Bytes → Bool
@@ -14,26 +15,20 @@ solid_all (b ∷ bs) = not (blank b) && solid_all bs
 pub solid_append : (bs cs : Bytes) → solid_all bs ≡ true → solid_all cs ≡ true → solid_all (bs ++ cs) ≡ true
 unfolding solid_all
 solid_append [] cs h e = e
-solid_append (b ∷ bs) cs h e = let p = and_parts (not (blank b)) (solid_all bs) h in and_from _ _ p.0 (solid_append bs cs p.1 e)
+solid_append (b ∷ bs) cs h e = grind (arith, common_steps, solid_append bs cs)
 
 -- a word that a blank follows, and one that nothing follows
 pub words_first : (w rest : Bytes) → solid_all w ≡ true → 0 < length w → words (w ++ 32 ∷ rest) ≡ w ∷ words rest
 unfolding solid_all words
 words_first [] rest h e = absurd (omega arith)
-words_first (b ∷ []) rest h e = let p = and_parts (not (blank b)) true h in cond-false _ _ _ (not-true (blank b) p.0)
-words_first (b ∷ c ∷ w) rest h e =
-    let p = and_parts (not (blank b)) (solid_all (c ∷ w)) h in
-    let q = and_parts (not (blank c)) (solid_all w) p.1 in
-    cond-false _ _ _ (not-true (blank b) p.0) ∙ cond-false _ _ _ (not-true (blank c) q.0) ∙ ap (in_front b) (words_first (c ∷ w) rest p.1 (omega arith))
+words_first (b ∷ []) rest h e = grind (arith, common_steps)
+words_first (b ∷ c ∷ w) rest h e = grind (arith, common_steps, words_first (c ∷ w) rest)
 
 pub words_only : (w : Bytes) → solid_all w ≡ true → 0 < length w → words w ≡ w ∷ []
 unfolding solid_all words
 words_only [] h e = absurd (omega arith)
-words_only (b ∷ []) h e = let p = and_parts (not (blank b)) true h in cond-false _ _ _ (not-true (blank b) p.0)
-words_only (b ∷ c ∷ w) h e =
-    let p = and_parts (not (blank b)) (solid_all (c ∷ w)) h in
-    let q = and_parts (not (blank c)) (solid_all w) p.1 in
-    cond-false _ _ _ (not-true (blank b) p.0) ∙ cond-false _ _ _ (not-true (blank c) q.0) ∙ ap (in_front b) (words_only (c ∷ w) p.1 (omega arith))
+words_only (b ∷ []) h e = grind (arith, common_steps)
+words_only (b ∷ c ∷ w) h e = grind (arith, common_steps, words_only (c ∷ w))
 
 -- ---- numbers
 
@@ -42,15 +37,12 @@ unfolding all_digits value
 own = numerals_by_fold _ (search rules) value (search rules)
 
 digit_solid : (b : ℕ) → digit b ≡ true → not (blank b) ≡ true
-digit_solid b h =
-    let p = and_parts (leb 48 b) (leb b 57) h in
-    let low : 48 ≤ b = leb-true 48 b p.0 in
-    not_from_false _ (grind arith)
+digit_solid b h = grind (arith, common_steps)
 
 digits_solid : (bs : Bytes) → all_digits bs ≡ true → solid_all bs ≡ true
 unfolding all_digits solid_all
 digits_solid [] h = refl
-digits_solid (b ∷ bs) h = let p = and_parts (digit b) (all_digits bs) h in and_from _ _ (digit_solid b p.0) (digits_solid bs p.1)
+digits_solid (b ∷ bs) h = grind (arith, common_steps, digit_solid b, digits_solid bs)
 
 module _ (n : ℕ) (h : n < 18446744073709551616) where
   pub written_solid : solid_all (written.decimal n) ≡ true
