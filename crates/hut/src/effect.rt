@@ -20,6 +20,6 @@ pub enum Effect {
     Told(Row),
     // The machine rests.
     Rested,
-    // There is no such act, and nothing was done.
+    // There is no such act, and nothing was done. No error: the world goes on with its mark.
     Fault,
 }

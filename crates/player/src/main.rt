@@ -17,7 +17,7 @@ use std::time::{Duration, Instant};
 use std::{env, fs};
 use world::World;
 
-// What is wrong is said once, on standard error; the status is then 1.
+// What is wrong is said once, on standard error; the status is then 1. Each program has these lines: a crate for them would be longer.
 fn main(rt: HostRuntime) -> ExitCode {
     let Err(error) = run(&rt) else {
         return ExitCode::SUCCESS;

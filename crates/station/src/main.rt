@@ -19,7 +19,7 @@ from machine I, or `poke`. Standard output is what goes out: `to J HEX`.
 It works till it rests, then after each line, and ends with its input.
 It may be killed at any moment and started again on the same files.";
 
-// What is wrong is said once, on standard error; the status is then 1.
+// What is wrong is said once, on standard error; the status is then 1. Each program has these lines: a crate for them would be longer.
 fn main(rt: HostRuntime) -> ExitCode {
     let Err(error) = run(&rt) else {
         return ExitCode::SUCCESS;

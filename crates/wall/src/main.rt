@@ -43,7 +43,7 @@ enum Failure {
     Memory(#[from(alloc)] AllocError),
 }
 
-// What is wrong is said once, on standard error; the status is then 1.
+// What is wrong is said once, on standard error; the status is then 1. Each program has these lines: a crate for them would be longer.
 fn main(rt: HostRuntime) -> ExitCode {
     let Err(failure) = run(&rt) else {
         return ExitCode::SUCCESS;

@@ -90,7 +90,7 @@ impl World {
         Ok(())
     }
 
-    // Each machine is poked and works.
+    // Each machine is poked and works. Apart from `bring_all`: the two halves of a round have a definition each, and a closure would need a clause as long as this loop.
     #[tactic(auto, using(crate::proofs::Turning::by_each_more), unfolding(machine::specs::Run::by_each, machine::specs::Run::up_to))]
     fn poke_all(
         &mut self,
