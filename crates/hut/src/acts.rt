@@ -1,5 +1,5 @@
 // What a machine does in its hut, act by act. A desk holds what its step left: memory and bytes.
-ghost use Rattle.std.specs.Prelude.{◌≡◌, ℕ, List, [], ◌∷◌, take, IfOk};
+ghost use Rattle.std.specs.Prelude.{◌≡◌, ℕ, List, [], ◌∷◌, IfOk};
 ghost use Rattle.machine.specs.Entry.{own};
 ghost use Rattle.machine.specs.Run.{machine, wakes, set_nth, more, from, let_go, sends, keep, recall, tells, rests};
 ghost use Rattle.sums.specs.Sums as given;
@@ -104,42 +104,27 @@ impl Hut {
         Effect::Released(p)
     }
 
-    // Machine i sends so many bytes of the desk to another.
-    pub(crate) fn send(
-        &mut self,
-        heap: Global,
-        desk: &mut Desk,
-        i: u64,
-        reader: u64,
-        len: u64,
-    ) -> Result<Effect, AllocError>
-        ensures { IfOk result (λ f. (rs : List given.Reading) → Did rs i (as_machine self.old) desk.old.memory.items (sends reader (take len desk.old.out.items)) (as_machine self.new) f) }
+    // Machine i sends a text to another, if there is such another.
+    pub(crate) fn send(&mut self, desk: &mut Desk, i: u64, reader: u64, text: Text) -> Effect
+        ensures { (rs : List given.Reading) → Did rs i (as_machine self.old) desk.old.memory.items (sends reader (as_text text)) (as_machine self.new) result }
     {
         if reader >= MACHINES || reader == i {
-            return Ok(Effect::Fault);
+            return Effect::Fault;
         }
-        let text = desk.text(heap, len)?;
         self.turn(desk, Some(Pending::Next));
-        Ok(Effect::Sent(reader, text))
+        Effect::Sent(reader, text)
     }
 
-    // A drawer has so many bytes of the desk from now on, if there is such a drawer.
-    pub(crate) fn keep(
-        &mut self,
-        heap: Global,
-        desk: &mut Desk,
-        drawer: u64,
-        len: u64,
-    ) -> Result<Effect, AllocError>
-        ensures { IfOk result (λ f. (rs : List given.Reading) (i : ℕ) → Did rs i (as_machine self.old) desk.old.memory.items (keep drawer (take len desk.old.out.items)) (as_machine self.new) f) }
+    // A drawer has this text from now on, if there is such a drawer.
+    pub(crate) fn keep(&mut self, desk: &mut Desk, drawer: u64, text: Text) -> Effect
+        ensures { (rs : List given.Reading) (i : ℕ) → Did rs i (as_machine self.old) desk.old.memory.items (keep drawer (as_text text)) (as_machine self.new) result }
     {
         if drawer >= DRAWERS {
-            return Ok(Effect::Fault);
+            return Effect::Fault;
         }
-        let text = desk.text(heap, len)?;
         put(&mut self.drawers, drawer, text);
         self.turn(desk, Some(Pending::Next));
-        Ok(Effect::Kept(drawer))
+        Effect::Kept(drawer)
     }
 
     // What a drawer has is told, if there is such a drawer.

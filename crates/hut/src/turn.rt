@@ -28,8 +28,14 @@ impl Hut {
             Act::More => Ok(self.more(desk, row)),
             Act::From(place) => Ok(self.read_from(desk, place)),
             Act::LetGo(place) => Ok(self.release(desk, place)),
-            Act::Sends(reader, len) => self.send(heap, desk, i, u64::from(reader), u64::from(len)),
-            Act::Keep(drawer, len) => self.keep(heap, desk, u64::from(drawer), u64::from(len)),
+            Act::Sends(reader, len) => {
+                let text = desk.text(heap, u64::from(len))?;
+                Ok(self.send(desk, i, u64::from(reader), text))
+            }
+            Act::Keep(drawer, len) => {
+                let text = desk.text(heap, u64::from(len))?;
+                Ok(self.keep(desk, u64::from(drawer), text))
+            }
             Act::Recall(drawer) => self.recall(heap, desk, drawer),
             Act::Tells(hour, place, sum) => Ok(self.tell(desk, Row { hour, place, sum })),
             Act::Rests => Ok(self.rest(desk)),

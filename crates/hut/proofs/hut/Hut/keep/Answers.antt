@@ -1,3 +1,4 @@
+use Rattle.std.proofs.Common.{refl}
 use Rattle.hut.specs.Played.{as_machine}
 use Rattle.hut.proofs.Acting.{did_keep, wrong_keep}
 use Rattle.hut.proofs.hut.Hut.keep.Goals as goal
@@ -7,4 +8,4 @@ returns-then-drawer-ge-DRAWERS c = λ rs i. wrong_keep rs i (as_machine c.args.s
 
 pub returns : goal.returns
 returns c = λ rs i.
-    did_keep rs i (as_machine c.args.self.now) _ _ _ c.in_ok-text.text _ _ c.in_ok-text.ensures c.if-drawer-ge-DRAWERS.false c.put.ensures c.turn.ensures
+    did_keep rs i (as_machine c.args.self.now) _ _ _ c.args.text _ _ refl c.if-drawer-ge-DRAWERS.false c.put.ensures c.turn.ensures

@@ -1,3 +1,4 @@
+use Rattle.std.proofs.Common.{refl}
 use Rattle.hut.specs.Played.{as_machine}
 use Rattle.hut.proofs.Acting.{did_sends, wrong_sends}
 use Rattle.hut.proofs.hut.Hut.send.Goals as goal
@@ -7,4 +8,4 @@ returns-then-reader-ge-MACHINES c = λ rs. wrong_sends rs c.args.i (as_machine c
 
 pub returns : goal.returns
 returns c = λ rs.
-    did_sends rs c.args.i (as_machine c.args.self.now) _ _ _ c.in_ok-text.text _ c.in_ok-text.ensures c.if-reader-ge-MACHINES.false c.if-reader-i.false c.turn.ensures
+    did_sends rs c.args.i (as_machine c.args.self.now) _ _ _ c.args.text _ refl c.if-reader-ge-MACHINES.false c.if-reader-i.false c.turn.ensures
