@@ -29,10 +29,7 @@ pub fn first_line(bytes: &[u8]) -> Option<(&[u8], &[u8])>
         return None;
     }
     let (line, end) = cut(bytes, |byte| byte == b'\n');
-    let [_, rest @ ..] = end else {
-        return Some((line, end));
-    };
-    Some((line, rest))
+    Some((line, end.get(1..).unwrap_or(end)))
 }
 
 // The lines of a text, one after the other.
@@ -67,8 +64,7 @@ impl<'a> Iterator for Lines<'a> {
 pub fn uncommented(line: &[u8]) -> &[u8]
     ensures { result.now ≡ before (λ b. nat_eq b 35) line.now }
 {
-    let (said, _) = cut(line, |byte| byte == b'#');
-    said
+    cut(line, |byte| byte == b'#').0
 }
 
 // What stands before the first dot, and what stands from it on.
@@ -90,7 +86,7 @@ pub fn first_word(bytes: &[u8]) -> Option<(&[u8], &[u8])>
     Some(cut(solid, is_blank))
 }
 
-// Whether a word is this name.
+// Whether a word is this name: `==` wants `.as_slice()` at each.
 pub fn same(word: &[u8], name: &[u8]) -> bool
     ensures { result ≡ bytes_eq word.now name.now }
 {
@@ -103,7 +99,7 @@ pub fn starts_with_digit(word: &[u8]) -> bool
     word.first().is_some_and(|byte| byte.is_ascii_digit())
 }
 
-// The number that the digits of a word write, where it is below 2^64.
+// The number that the digits of a word write, where it is below 2^64; a sign, which `parse` would take, is no digit.
 pub fn decimal(word: &[u8]) -> Option<u64>
     ensures { result ≡ spec.decimal word.now }
 {
