@@ -13,7 +13,7 @@ use store::drawers::{page_drawer, root_drawer};
 use store::{PageSet, Root};
 use sums::cells::PAGES;
 
-// The roll is full: the first page is kept, if there is an hour at hand.
+// The first page is kept, if there is an hour at hand.
 pub(crate) fn save_first(memory: &mut Memory, out: &mut Buffer) -> Act
     ensures { Wrote (filled memory.old) result memory.new out.old out.new }
 {

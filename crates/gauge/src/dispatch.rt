@@ -8,7 +8,7 @@ use crate::memory::{Buffer, Memory, PHASE, Phase};
 use crate::row::{ask, place, release};
 use crate::tell::{note_cursor, tell_next};
 
-// Told to go on, where nothing came. A phase that waits for something else rests. The lent memory keeps the phase as a number, and so no closure.
+// A phase that waits for something else rests. What comes next is kept as a number, since the memory is lent, and not as a closure.
 pub(crate) fn next_act(memory: &mut Memory, out: &mut Buffer) -> Act
     ensures { Wrote (went_on memory.old) result memory.new out.old out.new }
 {

@@ -23,7 +23,7 @@ pub(crate) fn keep_record<const N: usize, R: Record<N>>(
     Act::Keep(drawer, R::BYTES as u16)
 }
 
-// A page of the tables in memory, into this drawer. The page is a number, as it is in memory; who calls has just tested it.
+// A page of the tables in memory, into this drawer. The page is a number, as it is in memory, and no type of three uses.
 pub(crate) fn keep_page(memory: &Memory, page: u64, drawer: u8, out: &mut Buffer) -> Act
     requires { page < pages }
     ensures { Kept (keep drawer (page_bytes (page_sums_in memory.now page) (page_counts_in memory.now page))) result out.old out.new }

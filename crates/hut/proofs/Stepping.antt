@@ -52,4 +52,4 @@ unfolding one_step
 turned rs i x x₁ a d f [] e s did = let z : ◌≡◌ {A = ℕ} 0 1 = cc in absurd (omega arith)
 turned rs i x x₁ a d f (ev ∷ evs) e s did =
     let does = rw (s.0, s.1) at did in
-    (λ gs w row is. rw (e, is) (does.0 gs w row is), did.1)
+    (λ gs w row is. rw (e, is) (does.0 gs w row is), does.1, rw e does.2)

@@ -51,7 +51,7 @@ impl Hut {
     }
 
     // Takes over the memory that the step left, and what it will be told next.
-    fn turn(&mut self, desk: &mut Desk, pending: Option<Pending>)
+    pub fn turn(&mut self, desk: &mut Desk, pending: Option<Pending>)
         ensures { as_machine self.new ≡ told_next (as_machine self.old) desk.old.memory.items (as_pending pending) }
     {
         mem::swap(&mut self.memory, &mut desk.memory);
@@ -72,7 +72,7 @@ impl Hut {
         Pending::Comes(*reading)
     }
 
-    pub(crate) fn more(&mut self, desk: &mut Desk, row: &[Reading]) -> Effect
+    pub fn more(&mut self, desk: &mut Desk, row: &[Reading]) -> Effect
         ensures { (i : ℕ) → Did (as_row row.now) i (as_machine self.old) desk.old.memory.items more (as_machine self.new) result }
     {
         let next = self.next_reading(row);
@@ -81,7 +81,7 @@ impl Hut {
     }
 
     // Readings come from place p on, where that may be.
-    pub(crate) fn read_from(&mut self, desk: &mut Desk, p: u64) -> Effect
+    pub fn read_from(&mut self, desk: &mut Desk, p: u64) -> Effect
         ensures { (rs : List given.Reading) (i : ℕ) → Did rs i (as_machine self.old) desk.old.memory.items (from p) (as_machine self.new) result }
     {
         if p < self.gone || p - self.gone > ROLL {
@@ -93,7 +93,7 @@ impl Hut {
     }
 
     // What is before place p is released, where that may be.
-    pub(crate) fn release(&mut self, desk: &mut Desk, p: u64) -> Effect
+    pub fn release(&mut self, desk: &mut Desk, p: u64) -> Effect
         ensures { (rs : List given.Reading) (i : ℕ) → Did rs i (as_machine self.old) desk.old.memory.items (let_go p) (as_machine self.new) result }
     {
         if p < self.gone || p > self.reads_at {
@@ -116,7 +116,7 @@ impl Hut {
     }
 
     // A drawer has this text from now on, if there is such a drawer.
-    pub(crate) fn keep(&mut self, desk: &mut Desk, drawer: u64, text: Text) -> Effect
+    pub fn keep(&mut self, desk: &mut Desk, drawer: u64, text: Text) -> Effect
         ensures { (rs : List given.Reading) (i : ℕ) → Did rs i (as_machine self.old) desk.old.memory.items (keep drawer (as_text text)) (as_machine self.new) result }
     {
         if drawer >= DRAWERS {
@@ -128,7 +128,7 @@ impl Hut {
     }
 
     // What a drawer has is told, if there is such a drawer.
-    pub(crate) fn recall(
+    pub fn recall(
         &mut self,
         heap: Global,
         desk: &mut Desk,

@@ -10,7 +10,7 @@ use river::Item;
 use std::alloc::{AllocError, AllocFailed, Global};
 use thiserror::Error;
 
-// Each machine is poked and works. Apart from `add_letters`: a closure for the two items would need a clause as long as this loop.
+// Each machine is poked and works. `add_letters` is another function, since a closure for the two items would need a clause as long as this loop.
 fn add_pokes(items: &mut Vec<Item>, acts: u64) -> Result<(), AllocError>
     ensures { OnOk result (Grown items.old.items (pokes acts) items.new.items) }
 {

@@ -69,6 +69,12 @@ impl<'a> Target<'a> {
     }
 }
 
+// How many acts the machines do in all.
+fn total(acts: &[u64]) -> u64 {
+    acts.iter()
+        .fold(0, |sum: u64, acts| sum.saturating_add(*acts))
+}
+
 pub fn strike_all<'a>(
     rt: &'a HostRuntime,
     river: &'a River,
@@ -78,9 +84,7 @@ pub fn strike_all<'a>(
     let gauges = river.gauges.as_slice();
     let items = play::plain(heap, river.items.as_slice())?;
     let acts = play::acts_of(heap, gauges, items.as_slice())?;
-    let of = acts
-        .iter()
-        .fold(0, |sum: u64, acts| sum.saturating_add(*acts));
+    let of = total(acts.as_slice());
     let target = Target {
         rt,
         gauges,
@@ -99,6 +103,10 @@ pub fn strike_all<'a>(
             progress.show(rt, struck, of, "acts struck")?;
         }
     }
+    print(rt, score)
+}
+
+fn print(rt: &HostRuntime, score: Score) -> anyhow::Result<()> {
     let Score {
         worlds,
         told,

@@ -52,8 +52,23 @@ impl World {
         }
     }
 
-    // One step of machine i and its act; false where it rests.
+    // Room for a row and a letter.
+    fn make_room(&mut self) -> Result<(), AllocError>
+        ensures { as_world self.new ≡ as_world self.old }
+    {
+        self.told.reserve(1)?;
+        self.wires.reserve(1)
+    }
+
+    // One step of machine i and its act; false where it rests. Where there is no room for what comes of it, the machine has not moved.
     fn step(&mut self, heap: Global, gauges: &[Vec<Reading>], i: u64) -> Result<bool, AllocError>
+        ensures { IfOk result (λ go. Went (as_gauges gauges.now) (as_world self.old) i go (as_world self.new)) }
+    {
+        self.make_room()?;
+        self.turn(heap, gauges, i)
+    }
+
+    fn turn(&mut self, heap: Global, gauges: &[Vec<Reading>], i: u64) -> Result<bool, AllocError>
         ensures { IfOk result (λ go. Went (as_gauges gauges.now) (as_world self.old) i go (as_world self.new)) }
     {
         let Some(hut) = self.huts.get_mut(i as usize) else {
@@ -90,7 +105,7 @@ impl World {
         Ok(())
     }
 
-    // Each machine is poked and works. Apart from `bring_all`: the two halves of a round have a definition each, and a closure would need a clause as long as this loop.
+    // Each machine is poked and works. `bring_all` is another function: each half of a round has its definition, and a closure a clause as long as this loop.
     #[tactic(auto, using(crate::proofs::Turning::by_each_more), unfolding(machine::specs::Run::by_each, machine::specs::Run::up_to))]
     fn poke_all(
         &mut self,

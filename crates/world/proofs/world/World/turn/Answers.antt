@@ -5,7 +5,7 @@ use Rattle.hut.specs.Effects.{posted}
 use Rattle.world.specs.Worlds.{as_world}
 use Rattle.world.proofs.Huts.{lent, none_lent, hut_set, hut_back, machine_past}
 use Rattle.world.proofs.Turning.{went}
-use Rattle.world.proofs.world.World.step.Goals as goal
+use Rattle.world.proofs.world.World.turn.Goals as goal
 
 pub returns-in_default : goal.returns-in_default
 returns-in_default c =
