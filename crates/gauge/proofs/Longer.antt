@@ -1,7 +1,7 @@
 -- What is done at the front of a buffer, seen of the whole.
 use Rattle.std.proofs.Common.{◌≡◌, ℕ, ◌≤◌, List, ◌++◌, length, take, drop, refl, sym, ap, ◌∙◌, arith, append_assoc, length-append, length-drop}
 use Rattle.std.proofs.lemmas.List.{take-append-drop, drop-append-le}
-use Rattle.gauge.specs.Deeds.{Deed, Done, more, from, let_go, keep, recall, tells, rests, act_for, out_with, Did, Wrote}
+use Rattle.gauge.specs.Deeds.{Deed, Done, more, from, let_go, keep, recall, tells, rests, out_with, Did, Wrote}
 use Rattle.gauge.specs.declared.act.Act.{Act}
 
 -- a deed leaves alone what lies behind a buffer that has room for it
