@@ -1,6 +1,6 @@
 -- What an act, a poke and a letter do, as rules: P holds of the world after it if it holds of each outcome. P is a variable, so that antt finds the tests.
 use Rattle.std.proofs.Common.{◌≡◌, ℕ, suc, ◌+◌, ◌<◌, ◌≤◌, true, false, List, [], ◌∷◌, ◌++◌, length, drop, refl}
-use Rattle.std.proofs.lemmas.Bool.{leb-true, leb-false, ltb-true, ltb-false, le-leb, lt-ltb, ne_eqb}
+use Rattle.std.proofs.lemmas.Bool.{leb-true, leb-false, ltb-true, ltb-false, le-leb, lt-ltb}
 use Rattle.sums.specs.Sums.{Gauges, none_of, ToldSum}
 use Rattle.machine.specs.Run.{World, Machine, machine, machine_at, set_nth, nth_row, with_machine, faulty, Letter, bytes, first_reading, acted, poked, delivered, given}
 use Rattle.machine.specs.Run.{Act, more, from, let_go, sends, keep, recall, tells, rests, Event, later, ends, letter, slot, next, first_between, without_first}
@@ -46,11 +46,6 @@ module _ (gs : Gauges) (w : World) (i : ℕ) (m : List ℕ) (P : World → Type 
       P (with_machine w i (machine m (next ∷ []) (state w i).reads_at p (state w i).slots)) → P (acted gs w i m (let_go p))
   unfolding acted
   on_let_go p a b h = rw (le-leb _ _ a, le-leb _ _ b) h
-
-  pub on_sends : (j : ℕ) (bs : List ℕ) → j < 8 → (i ≡ j → ⊥) → bytes bs ≡ true →
-      P (with_letter w i (with_event (state w i) m next) (record { sender = i; reader = j; text = bs })) → P (acted gs w i m (sends j bs))
-  unfolding acted
-  on_sends j bs a b c h = rw (lt-ltb _ _ a, ne_eqb _ _ b, c) h
 
   pub on_keep : (s : ℕ) (bs : List ℕ) → s < 256 → bytes bs ≡ true →
       P (with_machine w i (machine m (next ∷ []) (state w i).reads_at (state w i).gone (set_nth (state w i).slots s bs))) → P (acted gs w i m (keep s bs))

@@ -49,12 +49,6 @@ Each Ok ms = (j : ℕ) → j < 8 → Ok j (machine_at ms j)
 pub each_set : (Ok : ℕ → Machine → Type 0) (ms : List Machine) (i : ℕ) (x : Machine) → Each Ok ms → (i < 8 → Ok i x) → Each Ok (set_nth ms i x)
 each_set Ok ms i x all ok j lt = at_set_all ms i j x (Ok j) (λ e. subst (λ k. Ok k x) e (ok (subst (λ k. k < 8) (sym e) lt))) (all j lt)
 
-pub row_set_same : {A : Type 0} (rs : List (List A)) (i : ℕ) (x : List A) → i < length rs → nth_row (set_nth rs i x) i ≡ x
-unfolding set_nth nth_row
-row_set_same [] i x h = absurd (omega arith)
-row_set_same (r ∷ rs) zero x h = refl
-row_set_same (r ∷ rs) (suc i) x h = row_set_same rs i x (omega arith)
-
 pub row_set_other : {A : Type 0} (rs : List (List A)) (i j : ℕ) (x : List A) → (i ≡ j → ⊥) → nth_row (set_nth rs i x) j ≡ nth_row rs j
 unfolding set_nth nth_row
 row_set_other [] i j x apart = refl

@@ -2,10 +2,10 @@
 use Rattle.std.proofs.Common.{◌≡◌, ℕ, zero, suc, ◌<◌, ◌≤◌, List, [], ◌∷◌, ◌++◌, sym, refl, ◌∙◌, ⊎_elim, arith}
 use Rattle.std.proofs.lemmas.Bool.{cases_eq}
 use Rattle.sums.specs.Sums.{Gauges}
-use Rattle.machine.specs.Run.{Engine, World, Event, one_step, goes, poked, delivered, by_each, up_to}
+use Rattle.machine.specs.Run.{Engine, World, Event, one_step, goes, poked, by_each, up_to}
 use Rattle.promise.proofs.Induction.{pick_both, by_each_good}
 use Rattle.promise.proofs.Machines.{at_set_other}
-use Rattle.promise.proofs.Acts.{state, on_any, on_poked, on_delivered}
+use Rattle.promise.proofs.Acts.{state, on_any, on_poked}
 
 module _ (i j : ℕ) (apart : i ≡ j → ⊥) where
   module _ (e : Engine) (gs : Gauges) where
@@ -23,10 +23,6 @@ module _ (i j : ℕ) (apart : i ≡ j → ⊥) where
 
   pub poked_other : (w : World) → state (poked w i) j ≡ state w j
   poked_other w = on_poked w (λ u. state u j ≡ state w j) i (λ _. at_set_other w.machines i j _ apart) (λ _. refl)
-
-  pub delivered_other : (a : ℕ) (w : World) → state (delivered w a i) j ≡ state w j
-  delivered_other a w =
-      on_delivered w (λ u. state u j ≡ state w j) a i (λ _ _ _ _. at_set_other w.machines i j _ apart) (λ _. refl) (λ _. refl)
 
 pub by_each_append : (f : World → ℕ → World) (w : World) (xs ys : List ℕ) → by_each f w (xs ++ ys) ≡ by_each f (by_each f w xs) ys
 unfolding by_each

@@ -1,6 +1,6 @@
 -- Tests over lists; what fine gauges say of each row, what comes of a place in a row, and that where the others are empty one row is all there is.
-use Rattle.std.proofs.Common.{◌≡◌, ℕ, zero, suc, ◌<◌, ◌≤◌, Bool, true, false, ◌&&◌, eqb, ltb, leb, List, [], ◌∷◌, ◌++◌, length, get_or, take, drop, refl, ap, ◌∙◌, append-nil, arith}
-use Rattle.std.proofs.lemmas.Bool.{ltb-true, leb-true, and_parts, and_from}
+use Rattle.std.proofs.Common.{◌≡◌, ℕ, zero, suc, ◌<◌, ◌≤◌, Bool, true, false, ◌&&◌, eqb, ltb, leb, List, [], ◌∷◌, ◌++◌, length, get_or, drop, refl, ap, ◌∙◌, append-nil, arith}
+use Rattle.std.proofs.lemmas.Bool.{ltb-true, leb-true, and_parts}
 use Rattle.sums.specs.Parts.{no_reading}
 use Rattle.sums.specs.Sums.{or, every, any, none_of, all_of, Gauges, Reading, rising, a_reading, gauges_fine}
 use Rattle.sums.proofs.Everys.{or_true}
@@ -32,12 +32,6 @@ module _ {A : Type 0} (f : A → Bool) where
   any_at [] i d lt h = absurd (omega arith)
   any_at (x ∷ xs) zero d lt h = rw h
   any_at (x ∷ xs) (suc i) d lt h = rw (any_at xs i d (omega arith) h) (or_true (f x))
-
-  pub every_more : (xs : List A) (i : ℕ) (d : A) → i < length xs → every f (take i xs) ≡ true → f (get_or xs i d) ≡ true → every f (take (suc i) xs) ≡ true
-  unfolding every
-  every_more [] i d lt h q = refl
-  every_more (x ∷ xs) zero d lt h q = rw q
-  every_more (x ∷ xs) (suc i) d lt h q = and_from _ _ (and_parts _ _ h).0 (every_more xs i d (omega arith) (and_parts (f x) _ h).1 q)
 
   pub every_at : (xs : List A) (i : ℕ) (d : A) → i < length xs → every f xs ≡ true → f (get_or xs i d) ≡ true
   unfolding every

@@ -1,18 +1,12 @@
 -- The new world: eight machines, each woken by its number, with empty drawers.
 use Rattle.std.proofs.Common.{◌≡◌, ℕ, zero, suc, ◌<◌, List, [], ◌∷◌, ◌++◌, length, refl, ap, ◌∙◌, subst, ⊎_elim, arith, length-append}
 use Rattle.std.proofs.lemmas.Bool.{cases_eq}
-use Rattle.machine.specs.Run.{Engine, Machine, machine, machine_at, numbered, so_many_of, wakes, nth_row}
+use Rattle.machine.specs.Run.{Engine, Machine, machine, machine_at, numbered, so_many_of, wakes}
 
 pub length_so_many : {A : Type 0} (n : ℕ) (x : A) → length (so_many_of n x) ≡ n
 unfolding so_many_of
 length_so_many zero x = refl
 length_so_many (suc n) x = ap suc (length_so_many n x)
-
-pub row_so_many : {A : Type 0} (n i : ℕ) → nth_row {A = A} (so_many_of n []) i ≡ []
-unfolding so_many_of nth_row
-row_so_many zero i = refl
-row_so_many (suc n) zero = refl
-row_so_many (suc n) (suc i) = row_so_many n i
 
 at_front : (xs ys : List Machine) (j : ℕ) → j < length xs → machine_at (xs ++ ys) j ≡ machine_at xs j
 unfolding machine_at
