@@ -1,28 +1,31 @@
 -- All that is promised, of the machine of one gauge, where only the first gauge has readings.
-use Rattle.std.proofs.Common.{◌≡◌, ℕ, zero, suc, ◌+◌, ◌*◌, ◌<◌, ◌≤◌, Bool, true, not, List, [], ◌∷◌, length, get_or, replicate, sym, refl, ap, ◌∙◌, subst, inr, ⊎_elim, arith, lit<}
+use Rattle.std.proofs.Common.{◌≡◌, ℕ, zero, suc, ◌+◌, ◌*◌, ◌<◌, ◌≤◌, Bool, true, not, List, [], ◌∷◌, length, get_or, replicate, sym, refl, ap, ◌∙◌, subst, inl, inr, ⊎_elim, arith, lit<}
 use Rattle.std.proofs.lemmas.Bool.{cases_lt, and_from}
 use Rattle.sums.specs.Parts.{no_reading}
 use Rattle.sums.specs.Sums.{Reading, Gauges, ToldSum, every, hour_of, has_told, all_told, gauges_fine, none_of, those}
 use Rattle.sums.specs.Tables.{zero_table}
 use Rattle.store.specs.Drawers.{Drawers}
 use Rattle.store.specs.Kept.{Kept, kept, kept_of}
-use Rattle.store.specs.Records.{set_number, zero_root, zero_cursor, RootFits, CursorFits}
+use Rattle.store.specs.Records.{set_number, root, zero_root, zero_cursor, RootFits, CursorFits}
+use Rattle.store.specs.declared.records.Cursor.{Cursor}
+use Rattle.store.specs.declared.records.PageSet.{PageSet}
+use Rattle.store.specs.declared.records.PageSet.TheVariants as page_set
 use Rattle.store.specs.Laws.{EmptyLaw}
 use Rattle.store.proofs.Checkpoints.{empty}
 use Rattle.machine.specs.Run.{World, Machine, machine, machine_at, nth_row, with_machine, Event, wakes, next, one_step, touches, Item, all_happened, calm, new_world, so_many_of, round}
 use Rattle.machine.specs.Entry.{own}
 use Rattle.machine.proofs.Steadies.{steady}
 use Rattle.promise.specs.Promise.{Safe, Whole, core}
-use Rattle.promise.specs.Released.{ReleasedKept, AllReleased}
+use Rattle.promise.specs.Released.{Accounted, ReleasedKept, AllReleased}
 use Rattle.promise.specs.Ever.{EverSafe}
 use Rattle.promise.proofs.Acts.{on_poked}
 use Rattle.promise.proofs.Calm.{AllRest, round_rests, delivered_none}
 use Rattle.promise.proofs.Induction.{Keeps, all_good, calm_good}
-use Rattle.promise.proofs.Knows.{hour_at, IsTold, Shut, CursorTrue, Holds}
+use Rattle.promise.proofs.Knows.{hour_at, IsTold, Open, Shut, CursorTrue, Holds, up_to_hour}
 use Rattle.promise.proofs.Machines.{past_at, set_past, none_and_some}
 use Rattle.promise.proofs.Phases.{steps_well}
 use Rattle.promise.proofs.Ranks.{rank}
-use Rattle.promise.proofs.Rows.{row_fine, first_is_all, none_nil}
+use Rattle.promise.proofs.Rows.{Fine, row_fine, first_is_all, none_nil}
 use Rattle.promise.proofs.Phases.{at_most_one}
 use Rattle.promise.proofs.Runs.{Drawn, Runs, waking, at_root, at_page, at_cursor, at_rooted, at_placed, at_released, at_comes, at_ends, at_later, at_saved, at_told, at_noted, at_closed, at_done, small, drawn_of}
 use Rattle.promise.proofs.Start.{numbered_at, length_numbered, length_so_many}
@@ -207,11 +210,29 @@ pub ever_safe : EverSafe
 unfolding EverSafe Safe
 ever_safe gs is fine known = ((happened_well gs fine known is).fault, (happened_well gs fine known is).right)
 
+-- what drawers that are true account for
+module _ (row : List Reading) (ts : List ToldSum) (fine : Fine row) where
+  accounted_open : (s : PageSet) (h p : ℕ) (ss cs : List ℕ) (c : Cursor) → (s ≡ page_set.None → ⊥) → Open row ts h p ss cs → Accounted row ts (kept (root s h p) ss cs c)
+  accounted_open s h p ss cs c some o = (
+    o.within,
+    λ j lt. ⊎_elim (λ (less : hour_at row j < h). inl (o.before j lt less))
+        (λ (ge : h ≤ hour_at row j). inr (some, omega (arith, up_to_hour row ts fine h p ss cs o j lt))) (cases_lt (hour_at row j) h),
+    λ _. o.tables,
+  )
+
+  accounted : (s : PageSet) (h p : ℕ) (ss cs : List ℕ) (c : Cursor) → Holds row ts (set_number s) h p ss cs → Accounted row ts (kept (root s h p) ss cs c)
+  accounted page_set.None h p ss cs c s = (s.within, λ j lt. inl (s.before j lt), λ some. absurd (some refl))
+  accounted page_set.First h p ss cs c o = accounted_open page_set.First h p ss cs c (λ e. cc) o
+  accounted page_set.Second h p ss cs c o = accounted_open page_set.Second h p ss cs c (λ e. cc) o
+
 pub released_kept : ReleasedKept
 unfolding ReleasedKept
 released_kept gs is k n i fine known lt =
-    let x = machine_at (calm k n own gs (all_happened own gs (new_world own) is)).machines i in
-    (drawn_of (nth_row gs i) _ x.memory x.pending x.reads_at x.gone x.slots ((calm_well gs fine known is k n).each i lt)).low
+    let w = calm k n own gs (all_happened own gs (new_world own) is) in
+    let x = machine_at w.machines i in
+    let d = drawn_of (nth_row gs i) w.told x.memory x.pending x.reads_at x.gone x.slots ((calm_well gs fine known is k n).each i lt) in
+    let h = kept_of x.slots in
+    (d.low, accounted (nth_row gs i) w.told (row_fine gs i fine) h.root.set h.root.hour h.root.pos h.sums h.counts h.cursor d.holds)
 
 pub all_released : AllReleased
 unfolding AllReleased calm

@@ -32,7 +32,7 @@ pub fn ever_safe()
     ensures { EverSafe }
 {}
 
-// Theorem: a machine releases no reading that its drawers do not account for.
+// Theorem: a machine releases no reading that its drawers do not account for: each is told, or is in the tables that its pages hold.
 pub fn released_kept()
     ensures { ReleasedKept }
 {}
