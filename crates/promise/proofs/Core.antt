@@ -17,7 +17,7 @@ use Rattle.machine.specs.Entry.{own}
 use Rattle.machine.proofs.Steadies.{steady}
 use Rattle.promise.specs.Promise.{Safe, Whole, core}
 use Rattle.promise.specs.Released.{Accounted, ReleasedKept, AllReleased}
-use Rattle.promise.specs.Ever.{EverSafe}
+use Rattle.promise.specs.Ever.{EverWhole}
 use Rattle.promise.proofs.Acts.{on_poked}
 use Rattle.promise.proofs.Calm.{AllRest, round_rests, delivered_none}
 use Rattle.promise.proofs.Induction.{Keeps, all_good, calm_good}
@@ -195,20 +195,17 @@ module _ (gs : Gauges) (fine : gauges_fine gs ≡ true) (known : core gs ≡ tru
       subst (λ l. every (λ r. has_told after.told (hour_of r) r.key) l ≡ true) (sym (first_is_all gs known))
       (every_at_each _ (nth_row gs 0) no_reading (all_finished 0 (lit< tt)).all)
 
-pub whole_core : Whole core own
-unfolding Whole Safe calm
-whole_core = (
-  steady,
-  λ gs is fine known few. (
-    ((happened_well gs fine known is).fault, (happened_well gs fine known is).right),
-    λ k n. ((calm_well gs fine known is k n).fault, (calm_well gs fine known is k n).right),
-    (1, acts_enough gs fine known, all_on_wall gs fine known is),
-  ),
+pub ever_whole : EverWhole
+unfolding EverWhole Safe calm
+ever_whole gs is fine known = (
+  ((happened_well gs fine known is).fault, (happened_well gs fine known is).right),
+  λ k n. ((calm_well gs fine known is k n).fault, (calm_well gs fine known is k n).right),
+  (1, acts_enough gs fine known, all_on_wall gs fine known is),
 )
 
-pub ever_safe : EverSafe
-unfolding EverSafe Safe
-ever_safe gs is fine known = ((happened_well gs fine known is).fault, (happened_well gs fine known is).right)
+pub whole_core : Whole core own
+unfolding Whole EverWhole
+whole_core = (steady, λ gs is fine known few. ever_whole gs is fine known)
 
 -- what drawers that are true account for
 module _ (row : List Reading) (ts : List ToldSum) (fine : Fine row) where
