@@ -1,9 +1,10 @@
 -- All that is promised, of the machine of one gauge, where only the first gauge has readings.
-use Rattle.std.proofs.Common.{◌≡◌, ℕ, zero, suc, ◌+◌, ◌*◌, ◌<◌, ◌≤◌, Bool, true, not, List, [], ◌∷◌, length, get_or, replicate, sym, refl, ap, ◌∙◌, subst, inl, inr, ⊎_elim, arith, lit<}
-use Rattle.std.proofs.lemmas.Bool.{cases_lt, and_from}
+use Rattle.std.proofs.Common.{◌≡◌, ℕ, zero, suc, ◌+◌, ◌*◌, ◌<◌, ◌≤◌, true, not, List, [], ◌∷◌, length, replicate, sym, refl, ap, ◌∙◌, subst, inl, inr, ⊎_elim, arith, lit<}
+use Rattle.std.proofs.lemmas.Bool.{cases_lt}
 use Rattle.sums.specs.Parts.{no_reading}
 use Rattle.sums.specs.Sums.{Reading, Gauges, ToldSum, every, hour_of, has_told, all_told, gauges_fine, none_of, those}
 use Rattle.sums.specs.Tables.{zero_table}
+use Rattle.sums.proofs.Everys.{every_places}
 use Rattle.store.specs.Drawers.{Drawers}
 use Rattle.store.specs.Kept.{Kept, kept, kept_of}
 use Rattle.store.specs.Records.{set_number, root, zero_root, zero_cursor, RootFits, CursorFits}
@@ -22,7 +23,7 @@ use Rattle.promise.proofs.Acts.{on_poked}
 use Rattle.promise.proofs.Calm.{AllRest, round_rests, delivered_none}
 use Rattle.promise.proofs.Induction.{Keeps, all_good, calm_good}
 use Rattle.promise.proofs.Knows.{hour_at, IsTold, Open, Shut, CursorTrue, Holds, up_to_hour}
-use Rattle.promise.proofs.Machines.{past_at, set_past, none_and_some}
+use Rattle.promise.proofs.Machines.{machine_past, set_past, none_and_some}
 use Rattle.promise.proofs.Phases.{steps_well}
 use Rattle.promise.proofs.Ranks.{rank}
 use Rattle.promise.proofs.Rows.{Fine, row_fine, first_is_all, none_nil}
@@ -115,7 +116,7 @@ module _ (gs : Gauges) (fine : gauges_fine gs ≡ true) (known : core gs ≡ tru
   step_from w i g [] e = g
   step_from w i g (ev ∷ evs) e = ⊎_elim
       (λ (lt : i < 8). (stepped w i lt g ev evs e).good)
-      (λ (ge : 8 ≤ i). none_and_some ev evs (sym e ∙ past_at w.machines i (omega (arith, g.eight))))
+      (λ (ge : 8 ≤ i). none_and_some ev evs (sym e ∙ ap (λ (x : Machine). x.pending) (machine_past w.machines i (omega (arith, g.eight)))))
       (cases_lt i 8)
 
   pub keeps_good : Keeps own gs (Good gs)
@@ -161,11 +162,6 @@ module _ (gs : Gauges) (fine : gauges_fine gs ≡ true) (known : core gs ≡ tru
           let x = machine_at v.machines i in
           omega (arith, rank_high (nth_row gs i) v.told x.memory x.pending x.reads_at x.gone x.slots (h.each i lt), (row_fine gs i fine).few)
 
-every_at_each : {A : Type 0} (f : A → Bool) (xs : List A) (d : A) → ((j : ℕ) → j < length xs → f (get_or xs j d) ≡ true) → every f xs ≡ true
-unfolding every
-every_at_each f [] d h = refl
-every_at_each f (x ∷ xs) d h = and_from _ _ (h 0 (omega arith)) (every_at_each f xs d (λ j lt. h (suc j) (omega arith)))
-
 module _ (gs : Gauges) (fine : gauges_fine gs ≡ true) (known : core gs ≡ true) (is : List Item) where
   abbrev happening : World
   happening = all_happened own gs (new_world own) is
@@ -193,7 +189,7 @@ module _ (gs : Gauges) (fine : gauges_fine gs ≡ true) (known : core gs ≡ tru
   all_on_wall : all_told gs after.told ≡ true
   all_on_wall =
       subst (λ l. every (λ r. has_told after.told (hour_of r) r.key) l ≡ true) (sym (first_is_all gs known))
-      (every_at_each _ (nth_row gs 0) no_reading (all_finished 0 (lit< tt)).all)
+      (every_places _ (nth_row gs 0) no_reading (all_finished 0 (lit< tt)).all)
 
 pub ever_whole : EverWhole
 unfolding EverWhole Safe calm
