@@ -163,9 +163,6 @@ module _ (gs : Gauges) (fine : gauges_fine gs ≡ true) (known : core gs ≡ tru
           omega (arith, rank_high (nth_row gs i) v.told x.memory x.pending x.reads_at x.gone x.slots (h.each i lt), (row_fine gs i fine).few)
 
 module _ (gs : Gauges) (fine : gauges_fine gs ≡ true) (known : core gs ≡ true) (is : List Item) where
-  abbrev happening : World
-  happening = all_happened own gs (new_world own) is
-
   happened_well : Good gs (all_happened own gs (new_world own) is)
   happened_well = all_good own gs (Good gs) (keeps_good gs fine known) is (new_world own) (start_good gs fine known)
 
