@@ -4,7 +4,7 @@ use Rattle.std.proofs.lemmas.Bool.{cases_lt}
 use Rattle.sums.specs.Sums.{Gauges}
 use Rattle.machine.specs.Run.{Engine, World, Machine, Event, one_step, goes, poked, delivered, first_between, round, by_each, up_to}
 use Rattle.promise.proofs.Induction.{pick_both, by_each_good, Keeps, goes_good, goes_more}
-use Rattle.promise.proofs.Machines.{past_at}
+use Rattle.promise.proofs.Machines.{machine_past}
 use Rattle.promise.proofs.Acts.{state, on_delivered}
 use Rattle.promise.proofs.Others.{goes_other, poked_other, by_each_eight}
 
@@ -57,7 +57,7 @@ module _ (e : Engine) (gs : Gauges) (Good : World → Type 0) (keeps : Keeps e g
     pokes_rest w g =
         let good : Good (by_each turn w (up_to 8)) = by_each_good Good turn turn_keeps (up_to 8) w g in
         let eight-rest : (j : ℕ) → j < 8 → Rests (by_each turn w (up_to 8)) j = by_each_eight turn Good (λ k u. Rests u k) turn_keeps turn_rests turn_stays w g in
-        record { good = good; rest = λ j. ⊎_elim (eight-rest j) (λ ge. past_at _ j (omega (arith, eight _ good))) (cases_lt j 8) }
+        record { good = good; rest = λ j. ⊎_elim (eight-rest j) (λ ge. ap (λ (x : Machine). x.pending) (machine_past _ j (omega (arith, eight _ good)))) (cases_lt j 8) }
 
     letters_rest : (w : World) (i j : ℕ) → AllRest Good w → AllRest Good (goes n e gs (delivered w i j) j)
     letters_rest w i j a =

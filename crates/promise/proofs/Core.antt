@@ -1,28 +1,32 @@
 -- All that is promised, of the machine of one gauge, where only the first gauge has readings.
-use Rattle.std.proofs.Common.{◌≡◌, ℕ, zero, suc, ◌+◌, ◌*◌, ◌<◌, ◌≤◌, Bool, true, not, List, [], ◌∷◌, length, get_or, replicate, sym, refl, ap, ◌∙◌, subst, inr, ⊎_elim, arith, lit<}
-use Rattle.std.proofs.lemmas.Bool.{cases_lt, and_from}
+use Rattle.std.proofs.Common.{◌≡◌, ℕ, zero, suc, ◌+◌, ◌*◌, ◌<◌, ◌≤◌, true, not, List, [], ◌∷◌, length, replicate, sym, refl, ap, ◌∙◌, subst, inl, inr, ⊎_elim, arith, lit<}
+use Rattle.std.proofs.lemmas.Bool.{cases_lt}
 use Rattle.sums.specs.Parts.{no_reading}
 use Rattle.sums.specs.Sums.{Reading, Gauges, ToldSum, every, hour_of, has_told, all_told, gauges_fine, none_of, those}
 use Rattle.sums.specs.Tables.{zero_table}
+use Rattle.sums.proofs.Everys.{every_places}
 use Rattle.store.specs.Drawers.{Drawers}
 use Rattle.store.specs.Kept.{Kept, kept, kept_of}
-use Rattle.store.specs.Records.{set_number, zero_root, zero_cursor, RootFits, CursorFits}
+use Rattle.store.specs.Records.{set_number, root, zero_root, zero_cursor, RootFits, CursorFits}
+use Rattle.store.specs.declared.records.Cursor.{Cursor}
+use Rattle.store.specs.declared.records.PageSet.{PageSet}
+use Rattle.store.specs.declared.records.PageSet.TheVariants as page_set
 use Rattle.store.specs.Laws.{EmptyLaw}
 use Rattle.store.proofs.Checkpoints.{empty}
 use Rattle.machine.specs.Run.{World, Machine, machine, machine_at, nth_row, with_machine, Event, wakes, next, one_step, touches, Item, all_happened, calm, new_world, so_many_of, round}
 use Rattle.machine.specs.Entry.{own}
 use Rattle.machine.proofs.Steadies.{steady}
 use Rattle.promise.specs.Promise.{Safe, Whole, core}
-use Rattle.promise.specs.Released.{ReleasedKept, AllReleased}
-use Rattle.promise.specs.Ever.{EverSafe}
+use Rattle.promise.specs.Released.{Accounted, ReleasedKept, AllReleased}
+use Rattle.promise.specs.Ever.{EverWhole}
 use Rattle.promise.proofs.Acts.{on_poked}
 use Rattle.promise.proofs.Calm.{AllRest, round_rests, delivered_none}
 use Rattle.promise.proofs.Induction.{Keeps, all_good, calm_good}
-use Rattle.promise.proofs.Knows.{hour_at, IsTold, Shut, CursorTrue, Holds}
-use Rattle.promise.proofs.Machines.{past_at, set_past, none_and_some}
+use Rattle.promise.proofs.Knows.{hour_at, IsTold, Open, Shut, CursorTrue, Holds, up_to_hour}
+use Rattle.promise.proofs.Machines.{machine_past, set_past, none_and_some}
 use Rattle.promise.proofs.Phases.{steps_well}
 use Rattle.promise.proofs.Ranks.{rank}
-use Rattle.promise.proofs.Rows.{row_fine, first_is_all, none_nil}
+use Rattle.promise.proofs.Rows.{Fine, row_fine, first_is_all, none_nil}
 use Rattle.promise.proofs.Phases.{at_most_one}
 use Rattle.promise.proofs.Runs.{Drawn, Runs, waking, at_root, at_page, at_cursor, at_rooted, at_placed, at_released, at_comes, at_ends, at_later, at_saved, at_told, at_noted, at_closed, at_done, small, drawn_of}
 use Rattle.promise.proofs.Start.{numbered_at, length_numbered, length_so_many}
@@ -112,7 +116,7 @@ module _ (gs : Gauges) (fine : gauges_fine gs ≡ true) (known : core gs ≡ tru
   step_from w i g [] e = g
   step_from w i g (ev ∷ evs) e = ⊎_elim
       (λ (lt : i < 8). (stepped w i lt g ev evs e).good)
-      (λ (ge : 8 ≤ i). none_and_some ev evs (sym e ∙ past_at w.machines i (omega (arith, g.eight))))
+      (λ (ge : 8 ≤ i). none_and_some ev evs (sym e ∙ ap (λ (x : Machine). x.pending) (machine_past w.machines i (omega (arith, g.eight)))))
       (cases_lt i 8)
 
   pub keeps_good : Keeps own gs (Good gs)
@@ -158,15 +162,7 @@ module _ (gs : Gauges) (fine : gauges_fine gs ≡ true) (known : core gs ≡ tru
           let x = machine_at v.machines i in
           omega (arith, rank_high (nth_row gs i) v.told x.memory x.pending x.reads_at x.gone x.slots (h.each i lt), (row_fine gs i fine).few)
 
-every_at_each : {A : Type 0} (f : A → Bool) (xs : List A) (d : A) → ((j : ℕ) → j < length xs → f (get_or xs j d) ≡ true) → every f xs ≡ true
-unfolding every
-every_at_each f [] d h = refl
-every_at_each f (x ∷ xs) d h = and_from _ _ (h 0 (omega arith)) (every_at_each f xs d (λ j lt. h (suc j) (omega arith)))
-
 module _ (gs : Gauges) (fine : gauges_fine gs ≡ true) (known : core gs ≡ true) (is : List Item) where
-  abbrev happening : World
-  happening = all_happened own gs (new_world own) is
-
   happened_well : Good gs (all_happened own gs (new_world own) is)
   happened_well = all_good own gs (Good gs) (keeps_good gs fine known) is (new_world own) (start_good gs fine known)
 
@@ -190,28 +186,43 @@ module _ (gs : Gauges) (fine : gauges_fine gs ≡ true) (known : core gs ≡ tru
   all_on_wall : all_told gs after.told ≡ true
   all_on_wall =
       subst (λ l. every (λ r. has_told after.told (hour_of r) r.key) l ≡ true) (sym (first_is_all gs known))
-      (every_at_each _ (nth_row gs 0) no_reading (all_finished 0 (lit< tt)).all)
+      (every_places _ (nth_row gs 0) no_reading (all_finished 0 (lit< tt)).all)
 
-pub whole_core : Whole core own
-unfolding Whole Safe calm
-whole_core = (
-  steady,
-  λ gs is fine known few. (
-    ((happened_well gs fine known is).fault, (happened_well gs fine known is).right),
-    λ k n. ((calm_well gs fine known is k n).fault, (calm_well gs fine known is k n).right),
-    (1, acts_enough gs fine known, all_on_wall gs fine known is),
-  ),
+pub ever_whole : EverWhole
+unfolding EverWhole Safe calm
+ever_whole gs is fine known = (
+  ((happened_well gs fine known is).fault, (happened_well gs fine known is).right),
+  λ k n. ((calm_well gs fine known is k n).fault, (calm_well gs fine known is k n).right),
+  (1, acts_enough gs fine known, all_on_wall gs fine known is),
 )
 
-pub ever_safe : EverSafe
-unfolding EverSafe Safe
-ever_safe gs is fine known = ((happened_well gs fine known is).fault, (happened_well gs fine known is).right)
+pub whole_core : Whole core own
+unfolding Whole EverWhole
+whole_core = (steady, λ gs is fine known few. ever_whole gs is fine known)
+
+-- what drawers that are true account for
+module _ (row : List Reading) (ts : List ToldSum) (fine : Fine row) where
+  accounted_open : (s : PageSet) (h p : ℕ) (ss cs : List ℕ) (c : Cursor) → (s ≡ page_set.None → ⊥) → Open row ts h p ss cs → Accounted row ts (kept (root s h p) ss cs c)
+  accounted_open s h p ss cs c some o = (
+    o.within,
+    λ j lt. ⊎_elim (λ (less : hour_at row j < h). inl (o.before j lt less))
+        (λ (ge : h ≤ hour_at row j). inr (some, omega (arith, up_to_hour row ts fine h p ss cs o j lt))) (cases_lt (hour_at row j) h),
+    λ _. o.tables,
+  )
+
+  accounted : (s : PageSet) (h p : ℕ) (ss cs : List ℕ) (c : Cursor) → Holds row ts (set_number s) h p ss cs → Accounted row ts (kept (root s h p) ss cs c)
+  accounted page_set.None h p ss cs c s = (s.within, λ j lt. inl (s.before j lt), λ some. absurd (some refl))
+  accounted page_set.First h p ss cs c o = accounted_open page_set.First h p ss cs c (λ e. cc) o
+  accounted page_set.Second h p ss cs c o = accounted_open page_set.Second h p ss cs c (λ e. cc) o
 
 pub released_kept : ReleasedKept
 unfolding ReleasedKept
 released_kept gs is k n i fine known lt =
-    let x = machine_at (calm k n own gs (all_happened own gs (new_world own) is)).machines i in
-    (drawn_of (nth_row gs i) _ x.memory x.pending x.reads_at x.gone x.slots ((calm_well gs fine known is k n).each i lt)).low
+    let w = calm k n own gs (all_happened own gs (new_world own) is) in
+    let x = machine_at w.machines i in
+    let d = drawn_of (nth_row gs i) w.told x.memory x.pending x.reads_at x.gone x.slots ((calm_well gs fine known is k n).each i lt) in
+    let h = kept_of x.slots in
+    (d.low, accounted (nth_row gs i) w.told (row_fine gs i fine) h.root.set h.root.hour h.root.pos h.sums h.counts h.cursor d.holds)
 
 pub all_released : AllReleased
 unfolding AllReleased calm

@@ -1,5 +1,5 @@
 -- What a machine knows of its gauge's row and of the wall: an hour at hand or none, an hour that is over, and a cursor that is true. Nothing of it counts events.
-use Rattle.std.proofs.Common.{◌≡◌, ℕ, zero, suc, ◌+◌, ◌-◌, ◌<◌, ◌≤◌, true, cond, ◌&&◌, eqb, ltb, ◌⊎◌, List, [], ◌∷◌, ◌++◌, length, get_or, sym, refl, ap, ◌∙◌, subst, inl, inr, ⊎_elim, add-one, arith}
+use Rattle.std.proofs.Common.{◌≡◌, ℕ, zero, suc, ◌+◌, ◌-◌, ◌<◌, ◌≤◌, true, ◌&&◌, eqb, ◌⊎◌, List, [], ◌∷◌, ◌++◌, length, get_or, sym, refl, ap, ◌∙◌, subst, inl, inr, ⊎_elim, add-one, arith}
 use Rattle.std.proofs.lemmas.Bool.{cases_eq, cases_lt, eq-eqb, ne_eqb, lt-ltb, and_from, cond-true, cond-false}
 use Rattle.sums.specs.Cells.{places, cell_of, place_of}
 use Rattle.sums.specs.Parts.{no_reading, part_of, count_of}
@@ -10,6 +10,7 @@ use Rattle.sums.proofs.Places.{place_back, cell_back, place_fits, cell_fits}
 use Rattle.sums.proofs.Rising.{rising_hour}
 use Rattle.sums.proofs.Taken.{tables_zeros, tables_more, key_fits}
 use Rattle.promise.proofs.Rows.{any_front, any_last, any_at, Fine}
+use Rattle.promise.proofs.Views.{first_cell}
 
 module _ (rs : List Reading) where
   abbrev pub hour_at : ℕ → ℕ
@@ -150,11 +151,11 @@ module _ (rs : List Reading) (ts : List ToldSum) (fine : Fine rs) where
           (counted_comes rs p c q some, sum ∙ part_over (λ r. r.value) rs p c q none_left ∙ part_of_all (λ r. r.value) rs c q)
 
       module _ (h d : ℕ) (known : CursorTrue rs ts h d) where
-        abbrev pub first_cell : ℕ
-        first_cell = cond (eqb h c) d (cond (ltb h c) 0 places)
+        abbrev first : ℕ
+        first = first_cell c h d
 
         -- cells before the first that is left are told
-        told_before : (j : ℕ) → j < length rs → hour_at rs j ≡ c → cell_of (place_at rs j) < first_cell → IsTold rs ts j
+        told_before : (j : ℕ) → j < length rs → hour_at rs j ≡ c → cell_of (place_at rs j) < first → IsTold rs ts j
         told_before j lt e l = ⊎_elim
             (λ (q : h ≡ c). known j lt (inr (e ∙ sym q, subst (λ n. cell_of (place_at rs j) < n) (cond-true _ _ _ (eq-eqb h c q)) l)))
             (λ (q : h ≡ c → ⊥). ⊎_elim
@@ -163,7 +164,7 @@ module _ (rs : List Reading) (ts : List ToldSum) (fine : Fine rs) where
             (cases_eq h c)
 
         -- a cell is told, and nothing between was left: the cursor behind it is true
-        pub cell_told : (k s : ℕ) → k < places → first_cell ≤ k → ((n : ℕ) → first_cell ≤ n → n < k → get_or cs n 0 ≡ 0) →
+        pub cell_told : (k s : ℕ) → k < places → first ≤ k → ((n : ℕ) → first ≤ n → n < k → get_or cs n 0 ≡ 0) →
             CursorTrue rs (ts ++ record { hour = c; place = place_of k; sum = s } ∷ []) c (k + 1)
         cell_told k s lk le none j lt (inl l) = told_more rs ts _ _ _ (o.before j (read_already j lt (omega arith)) l)
         cell_told k s lk le none j lt (inr w) =
@@ -175,13 +176,13 @@ module _ (rs : List Reading) (ts : List ToldSum) (fine : Fine rs) where
             any_last (λ t. eqb t.hour (hour_at rs j) && eqb t.place (place_at rs j)) ts (record { hour = c; place = place_of k; sum = s })
             (and_from _ _ (eq-eqb c (hour_at rs j) (sym w.0)) (eq-eqb (place_of k) (place_at rs j) same)))
             (λ (q : cell_of (place_at rs j) ≡ k → ⊥). told_more rs ts _ _ _ (⊎_elim
-            (λ (l : cell_of (place_at rs j) < first_cell). told_before j lt w.0 l)
-            (λ (g : first_cell ≤ cell_of (place_at rs j)). absurd (omega (arith, counted j lt w.0, none x g (omega (arith, q, w.1)))))
-            (cases_lt (cell_of (place_at rs j)) first_cell)))
+            (λ (l : cell_of (place_at rs j) < first). told_before j lt w.0 l)
+            (λ (g : first ≤ cell_of (place_at rs j)). absurd (omega (arith, counted j lt w.0, none x g (omega (arith, q, w.1)))))
+            (cases_lt (cell_of (place_at rs j)) first)))
             (cases_eq (cell_of (place_at rs j)) k)
 
         -- nothing is left of the hour: the cursor past it is true
-        pub hour_told : ((n : ℕ) → first_cell ≤ n → n < places → get_or cs n 0 ≡ 0) → CursorTrue rs ts (c + 1) 0
+        pub hour_told : ((n : ℕ) → first ≤ n → n < places → get_or cs n 0 ≡ 0) → CursorTrue rs ts (c + 1) 0
         hour_told none j lt (inr w) = absurd (omega (arith, w.1))
         hour_told none j lt (inl l) =
             let low : place_at rs j < places = key_fits rs j fine.readings lt in
@@ -190,10 +191,10 @@ module _ (rs : List Reading) (ts : List ToldSum) (fine : Fine rs) where
             (λ (q : c ≤ hour_at rs j).
             let same : hour_at rs j ≡ c = omega arith in
             ⊎_elim
-            (λ (f : cell_of (place_at rs j) < first_cell). told_before j lt same f)
-            (λ (g : first_cell ≤ cell_of (place_at rs j)).
+            (λ (f : cell_of (place_at rs j) < first). told_before j lt same f)
+            (λ (g : first ≤ cell_of (place_at rs j)).
             absurd (omega (arith, counted j lt same, none (cell_of (place_at rs j)) g (cell_fits (place_at rs j) low))))
-            (cases_lt (cell_of (place_at rs j)) first_cell))
+            (cases_lt (cell_of (place_at rs j)) first))
             (cases_lt (hour_at rs j) c)
 
     -- with the cursor past the hour, no hour is at hand any more

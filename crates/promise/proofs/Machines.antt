@@ -1,6 +1,6 @@
--- One machine of eight is set, or one of its drawers: what is there then, and in the other places.
-use Rattle.std.proofs.Common.{◌≡◌, ℕ, zero, suc, ◌<◌, ◌≤◌, List, [], ◌∷◌, length, sym, refl, ap, subst, arith}
-use Rattle.machine.specs.Run.{Machine, machine_at, set_nth, nth_row}
+-- One machine of eight is set: what is there then, and in the other places.
+use Rattle.std.proofs.Common.{◌≡◌, ℕ, zero, suc, ◌<◌, ◌≤◌, List, [], ◌∷◌, length, refl, ap, arith}
+use Rattle.machine.specs.Run.{Machine, machine, machine_at, set_nth}
 
 pub length_set_nth : {A : Type 0} (xs : List A) (i : ℕ) (x : A) → length (set_nth xs i x) ≡ length xs
 unfolding set_nth
@@ -35,24 +35,9 @@ at_set_all (m ∷ ms) (suc i) (suc j) x P f p = at_set_all ms i j x P (λ e. f (
 pub at_set_other : (ms : List Machine) (i j : ℕ) (x : Machine) → (i ≡ j → ⊥) → machine_at (set_nth ms i x) j ≡ machine_at ms j
 at_set_other ms i j x apart = at_set_all ms i j x (λ m. m ≡ machine_at ms j) (λ e. absurd (apart e)) refl
 
--- there are no more than the row has
-pub past_at : (ms : List Machine) (i : ℕ) → length ms ≤ i → (machine_at ms i).pending ≡ []
+-- past the last there is a machine that has nothing and rests
+pub machine_past : (ms : List Machine) (i : ℕ) → length ms ≤ i → machine_at ms i ≡ machine [] [] 0 0 []
 unfolding machine_at
-past_at [] i h = refl
-past_at (m ∷ ms) zero h = absurd (omega arith)
-past_at (m ∷ ms) (suc i) h = past_at ms i (omega arith)
-
--- what holds of each of the eight, by its number
-abbrev pub Each : (ℕ → Machine → Type 0) → List Machine → Type 0
-Each Ok ms = (j : ℕ) → j < 8 → Ok j (machine_at ms j)
-
-pub each_set : (Ok : ℕ → Machine → Type 0) (ms : List Machine) (i : ℕ) (x : Machine) → Each Ok ms → (i < 8 → Ok i x) → Each Ok (set_nth ms i x)
-each_set Ok ms i x all ok j lt = at_set_all ms i j x (Ok j) (λ e. subst (λ k. Ok k x) e (ok (subst (λ k. k < 8) (sym e) lt))) (all j lt)
-
-pub row_set_other : {A : Type 0} (rs : List (List A)) (i j : ℕ) (x : List A) → (i ≡ j → ⊥) → nth_row (set_nth rs i x) j ≡ nth_row rs j
-unfolding set_nth nth_row
-row_set_other [] i j x apart = refl
-row_set_other (r ∷ rs) zero zero x apart = absurd (apart refl)
-row_set_other (r ∷ rs) zero (suc j) x apart = refl
-row_set_other (r ∷ rs) (suc i) zero x apart = refl
-row_set_other (r ∷ rs) (suc i) (suc j) x apart = row_set_other rs i j x (λ e. apart (ap suc e))
+machine_past [] i h = refl
+machine_past (m ∷ ms) zero h = absurd (omega arith)
+machine_past (m ∷ ms) (suc i) h = machine_past ms i (omega arith)

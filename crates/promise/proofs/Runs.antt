@@ -7,7 +7,7 @@ use Rattle.sums.specs.Tables.{zero_table}
 use Rattle.store.specs.Drawers.{Drawers, drawers, drawer_at, root_drawer, cursor_drawer, page_drawer}
 use Rattle.store.specs.Kept.{kept_of}
 use Rattle.store.specs.Laws.{PagesKept, ReadBack}
-use Rattle.store.specs.Records.{set_number, shadow_of, RootFits, CursorFits}
+use Rattle.store.specs.Records.{set_number, shadow_of, number_limit, RootFits, CursorFits}
 use Rattle.store.specs.declared.records.PageSet.TheVariants as page_set
 use Rattle.gauge.specs.Memory.{asks_root, asks_page, asks_cursor, placed, released, reading, saved, rooted, told, noted, closed, done}
 use Rattle.machine.specs.Run.{Event, wakes, comes, later, ends, slot, next}
@@ -16,7 +16,7 @@ use Rattle.promise.proofs.Knows.{Holds, CursorTrue, Over, holds_more, cursor_mor
 use Rattle.promise.proofs.Views.{mem}
 
 abbrev pub small : ℕ → Type 0
-small n = n < 18446744073709551616
+small n = n < number_limit
 
 module _ (rs : List Reading) (ts : List ToldSum) where
   -- what the drawers stand for is true, and the roll still has all that it leaves out

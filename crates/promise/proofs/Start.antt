@@ -24,15 +24,14 @@ unfolding numbered
 length_numbered e zero = refl
 length_numbered e (suc n) = simp (length-append, length_numbered e n) (omega arith)
 
--- a machine as it wakes, at the start or after a fall
-abbrev pub woken : Engine → ℕ → (gone : ℕ) (slots : List (List ℕ)) → Machine
-woken e j gone slots = machine e.start (wakes j ∷ []) gone gone slots
+-- a machine at the start
+abbrev new : Engine → ℕ → Machine
+new e j = machine e.start (wakes j ∷ []) 0 0 (so_many_of 256 [])
 
-pub numbered_at : (e : Engine) (n j : ℕ) → j < n → machine_at (numbered e n) j ≡ woken e j 0 (so_many_of 256 [])
+pub numbered_at : (e : Engine) (n j : ℕ) → j < n → machine_at (numbered e n) j ≡ new e j
 unfolding numbered
 numbered_at e zero j h = absurd (omega arith)
 numbered_at e (suc n) j h = ⊎_elim
-    (λ q. rw q (subst (λ k. machine_at (numbered e n ++ woken e n 0 (so_many_of 256 []) ∷ []) k ≡ woken e n 0 (so_many_of 256 []))
-    (length_numbered e n) (at_last (numbered e n) _)))
+    (λ q. rw q (subst (λ k. machine_at (numbered e n ++ new e n ∷ []) k ≡ new e n) (length_numbered e n) (at_last (numbered e n) _)))
     (λ ne. let lt : j < n = omega arith in at_front (numbered e n) _ j (rw (length_numbered e n) lt) ∙ numbered_at e n j lt)
     (cases_eq j n)

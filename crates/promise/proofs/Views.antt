@@ -19,7 +19,7 @@ use Rattle.store.specs.declared.records.PageSet.{PageSet}
 use Rattle.store.specs.declared.records.PageSet.TheVariants as page_set
 use Rattle.gauge.specs.Memory.{asks_root, asks_page, asks_cursor, placed, released, reading, saved, rooted, told, noted, closed, done}
 use Rattle.gauge.specs.Memory.{sums_in, counts_in, page_sums_in, page_counts_in}
-use Rattle.gauge.specs.Gauge.{first_counted, next_cell, cell_told, tell_next, accumulated, set_named, page_saved}
+use Rattle.gauge.specs.Gauge.{first_counted, first_to_tell, next_cell, cell_told, tell_next, accumulated, set_named, page_saved}
 use Rattle.machine.specs.Boot.{page_fits, page_asked_in}
 use Rattle.machine.specs.Run.{Event, wakes, comes, later, ends, slot, next, Act, more, from, let_go, keep, recall, tells, rests, Step}
 use Rattle.machine.specs.Machine.{reacts, as_step, machine_step}
@@ -34,7 +34,7 @@ does m a = record { memory = m; act = a }
 
 -- the first cell of the hour at hand that is not told, by the cursor
 abbrev pub first_cell : (hr ch cc : ℕ) → ℕ
-first_cell hr ch cc = cond (eqb ch hr) cc (cond (ltb ch hr) 0 1024)
+first_cell hr ch cc = first_to_tell (mem 0 0 0 hr 0 0 ch cc [] [])
 
 two_tables : (n : ℕ) → n ≡ 2048 → replicate n 0 ≡ zero_table ++ zero_table
 unfolding zero_table

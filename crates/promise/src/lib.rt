@@ -4,7 +4,7 @@
 ghost use Rattle.machine.specs.Entry.{own};
 ghost use Rattle.promise.specs.Promise.{InOrder, Outlives, NeverBack, Whole, core};
 ghost use Rattle.promise.specs.Released.{ReleasedKept, AllReleased};
-ghost use Rattle.promise.specs.Ever.{EverSafe};
+ghost use Rattle.promise.specs.Ever.{EverWhole};
 
 // Theorem: letters between two machines come in the order in which they were sent.
 pub fn in_order()
@@ -27,12 +27,12 @@ pub fn whole_core()
     ensures { Whole core own }
 {}
 
-// Theorem: nothing is ever at fault and every row that is told is right, however much happens.
-pub fn ever_safe()
-    ensures { EverSafe }
+// Theorem: the same of any list of things that happen, however long.
+pub fn ever_whole()
+    ensures { EverWhole }
 {}
 
-// Theorem: a machine releases no reading that its drawers do not account for.
+// Theorem: a machine releases no reading that its drawers do not account for: each is told, or is in the tables that its pages hold.
 pub fn released_kept()
     ensures { ReleasedKept }
 {}

@@ -9,7 +9,7 @@ use Rattle.machine.specs.Run.{machine, machine_at, set_nth, with_machine, next, 
 use Rattle.hut.specs.Played.{as_machine, told_next}
 use Rattle.hut.specs.declared.hut.Hut.{Hut}
 use Rattle.sums.proofs.Eaches.{length_each}
-use Rattle.promise.proofs.Machines.{set_past}
+use Rattle.promise.proofs.Machines.{machine_past, set_past}
 use Rattle.hut.proofs.Eaches.{each_set_nth}
 
 hut_at : (hs : List Hut) (i : ℕ) (h : Hut) → i < length hs → h ≡ get_or hs i h → machine_at (each as_machine hs) i ≡ as_machine h
@@ -25,11 +25,8 @@ lent hs i h item = hut_at hs i h.now (ltb-true _ _ (sym item.0)) item.1
 pub none_lent : (hs : List Hut) (i : ℕ) → IsItemAtMut hs i None → length hs ≤ i
 none_lent hs i item = ltb-false _ _ (sym item.0)
 
-pub machine_past : (hs : List Hut) (i : ℕ) → length hs ≤ i → machine_at (each as_machine hs) i ≡ machine [] [] 0 0 []
-unfolding each machine_at
-machine_past [] i le = refl
-machine_past (h ∷ hs) zero le = absurd (omega arith)
-machine_past (h ∷ hs) (suc i) le = machine_past hs i (omega arith)
+pub hut_past : (hs : List Hut) (i : ℕ) → length hs ≤ i → machine_at (each as_machine hs) i ≡ machine [] [] 0 0 []
+hut_past hs i le = machine_past (each as_machine hs) i (rw (length_each as_machine hs) le)
 
 -- a world whose machines are these huts
 abbrev pub huts_world : List Hut → run.World → run.World
@@ -62,5 +59,5 @@ pub poked_past : (hs : List Hut) (w : run.World) (i : ℕ) → length hs ≤ i �
 unfolding none_of
 poked_past hs w i le =
     let far : length (each as_machine hs) ≤ i = rw (length_each as_machine hs) le in
-    poked_rest (huts_world hs w) i (machine [] [] 0 0 []) (machine_past hs i le) refl
+    poked_rest (huts_world hs w) i (machine [] [] 0 0 []) (hut_past hs i le) refl
     ∙ ap (λ ms. record { machines = ms; wires = w.wires; told = w.told; fault = w.fault }) (set_past (each as_machine hs) i (told_next (machine [] [] 0 0 []) [] (next ∷ [])) far)

@@ -15,7 +15,7 @@ use Rattle.hut.specs.declared.effect.Effect.TheVariants.{Asked, Sought, Released
 use Rattle.world.specs.Worlds.{Went}
 use Rattle.hut.specs.declared.hut.Hut.{Hut}
 use Rattle.promise.proofs.Machines.{set_past}
-use Rattle.world.proofs.Huts.{huts_world, machine_past, set_same}
+use Rattle.world.proofs.Huts.{huts_world, hut_past, set_same}
 use Rattle.world.proofs.Posting.{none_rest}
 
 module _ (w : run.World) (i j : ℕ) (x : run.Machine) (is : machine_at w.machines j ≡ x) where
@@ -41,11 +41,11 @@ delivered_past hs w i j le = go (first_between i j w.wires) refl
     go : (ls : List run.Letter) → first_between i j w.wires ≡ ls → delivered (huts_world hs w) i j ≡
         record { machines = each as_machine hs; wires = without_first i j w.wires; told = w.told; fault = w.fault }
     go [] e =
-        delivered_none (huts_world hs w) i j (machine [] [] 0 0 []) (machine_past hs j le) refl e
+        delivered_none (huts_world hs w) i j (machine [] [] 0 0 []) (hut_past hs j le) refl e
         ∙ ap (λ ls. record { machines = each as_machine hs; wires = ls; told = w.told; fault = w.fault }) (sym (none_rest i j w.wires e))
     go (l ∷ ls) e =
         let far : length (each as_machine hs) ≤ j = rw (length_each as_machine hs) le in
-        delivered_some (huts_world hs w) i j (machine [] [] 0 0 []) (machine_past hs j le) refl l ls e
+        delivered_some (huts_world hs w) i j (machine [] [] 0 0 []) (hut_past hs j le) refl l ls e
         ∙ ap (λ ms. record { machines = ms; wires = without_first i j w.wires; told = w.told; fault = w.fault })
         (set_past (each as_machine hs) j (told_next (machine [] [] 0 0 []) [] (letter i l.text ∷ [])) far)
 

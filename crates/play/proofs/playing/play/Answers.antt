@@ -4,8 +4,8 @@ use Rattle.sums.specs.Readings.{as_gauges}
 use Rattle.machine.specs.Entry.{own}
 use Rattle.machine.specs.Run.{all_happened, new_world}
 use Rattle.promise.specs.Promise.{Safe}
-use Rattle.promise.proofs.Core.{ever_safe}
-use Rattle.promise.specs.Ever.{EverSafe}
+use Rattle.promise.proofs.Core.{ever_whole}
+use Rattle.promise.specs.Ever.{EverWhole}
 use Rattle.river.specs.declared.model.Item.TheVariants.{Works}
 use Rattle.world.specs.Worlds.{as_world, took_place}
 use Rattle.play.specs.Plays.{unrolled}
@@ -24,9 +24,9 @@ loop-item-preserved c =
     ∙ played_more gs (new_world own) c.args.items.now c.loop-item.item-index (Works 0 0) c.loop-item-test.true
 
 pub returns : goal.returns
-unfolding EverSafe
+unfolding EverWhole
 returns c =
     let gs = as_gauges c.args.gauges.now in
     let all = ap (λ l. all_happened own gs (new_world own) (unrolled l)) (take_all c.loop-item.item-index c.args.items.now c.loop-item-test.false) in
     let is : as_world c.loop-item.world ≡ all_happened own gs (new_world own) (unrolled c.args.items.now) = c.loop-item.invariant ∙ all in
-    record { world = is; right = λ fine known. subst (Safe gs) (sym is) (ever_safe gs (unrolled c.args.items.now) fine known) }
+    record { world = is; right = λ fine known. subst (Safe gs) (sym is) (ever_whole gs (unrolled c.args.items.now) fine known).0 }

@@ -3,8 +3,8 @@ use Rattle.std.proofs.lemmas.Result.{IfOk-weaker}
 use Rattle.sums.specs.Sums.{all_told, every, is_right, pick}
 use Rattle.sums.specs.Readings.{as_gauges}
 use Rattle.promise.specs.Promise.{Safe}
-use Rattle.promise.specs.Ever.{EverSafe}
-use Rattle.promise.proofs.Core.{ever_safe}
+use Rattle.promise.specs.Ever.{EverWhole}
+use Rattle.promise.proofs.Core.{ever_whole}
 use Rattle.world.specs.Worlds.{as_world}
 use Rattle.play.specs.Plays.{played, unrolled}
 use Rattle.play.specs.Trials.{Scores}
@@ -13,7 +13,7 @@ use Rattle.play.specs.declared.verdict.Verdict.TheVariants.{Fault, Wrong, Untold
 use Rattle.play.proofs.trials.trial.Goals as goal
 
 pub returns : goal.returns
-unfolding EverSafe Safe
+unfolding EverWhole Safe
 returns c =
     let gs = as_gauges c.args.gauges.now in
     let its = c.args.items.now in
@@ -22,7 +22,7 @@ returns c =
       verdict = IfOk-weaker c.outcome_of.result _ _ (λ t e. e ∙ ap (verdict_of gs) is) c.outcome_of.ensures.verdict;
       right = IfOk-weaker c.outcome_of.result _ _
           (λ t e fine known.
-          let safe = ever_safe gs (unrolled its) fine known in
+          let safe = (ever_whole gs (unrolled its) fine known).0 in
           let w = played gs its in
           let told = pick (all_told gs w.told) Right Untold in
           e ∙ ap (verdict_of gs) is ∙ ap (λ b. pick b Fault (pick (every (is_right gs) w.told) told Wrong)) safe.0 ∙ ap (λ b. pick b told Wrong) safe.1)

@@ -3,7 +3,7 @@ use Rattle.sums.specs.Readings.{as_gauges}
 use Rattle.hut.specs.Played.{as_machine}
 use Rattle.hut.specs.Effects.{posted}
 use Rattle.world.specs.Worlds.{as_world}
-use Rattle.world.proofs.Huts.{lent, none_lent, hut_set, hut_back, machine_past}
+use Rattle.world.proofs.Huts.{lent, none_lent, hut_set, hut_back, hut_past}
 use Rattle.world.proofs.Turning.{went}
 use Rattle.world.proofs.world.World.turn.Goals as goal
 
@@ -11,7 +11,7 @@ pub returns-in_default : goal.returns-in_default
 returns-in_default c =
     let w = c.args.self.now in
     let le : length (vec_items w.huts) ≤ c.args.i = none_lent _ _ c.in_default.ensures.item in
-    (refl, ap (λ x. x.pending) (machine_past (vec_items w.huts) c.args.i le))
+    (refl, ap (λ x. x.pending) (hut_past (vec_items w.huts) c.args.i le))
 
 pub returns-in_default-2 : goal.returns-in_default-2
 returns-in_default-2 c =
