@@ -14,3 +14,4 @@ pub mod Others
 pub mod Calm
 pub mod Laws
 pub mod Core
+pub mod Once
