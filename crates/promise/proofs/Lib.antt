@@ -15,3 +15,4 @@ pub mod Calm
 pub mod Laws
 pub mod Core
 pub mod Once
+pub mod OnceSteps
