@@ -16,3 +16,4 @@ pub mod Laws
 pub mod Core
 pub mod Once
 pub mod OnceSteps
+pub mod OnceWorld
