@@ -1,14 +1,14 @@
 -- How often a row has been told: what the wall and a cursor say of each other, and how many rows are told again at most.
-use Rattle.std.proofs.Common.{◌≡◌, ℕ, zero, suc, ◌+◌, ◌-◌, ◌*◌, ◌<◌, ◌≤◌, Bool, true, false, cond, ◌&&◌, eqb, ltb, ◌⊎◌, List, [], ◌∷◌, ◌++◌, length, get_or, sym, refl, ap, ◌∙◌, subst, inl, inr, ⊎_elim, append_assoc, append-nil, arith}
-use Rattle.std.proofs.lemmas.Bool.{cases_eq, cases_lt, eq-eqb, ne_eqb, eqb-true, lt-ltb, le-ltb, and_parts, and_from, cond-true, cond-false}
-use Rattle.sums.specs.Cells.{places, cell_of, place_of}
+use Rattle.std.proofs.Common.{◌≡◌, ℕ, zero, suc, ◌+◌, ◌-◌, ◌*◌, ◌<◌, ◌≤◌, Bool, true, false, cond, ◌&&◌, eqb, ltb, ◌⊎◌, List, [], ◌∷◌, ◌++◌, length, get_or, sym, refl, ap, ◌∙◌, inl, inr, ⊎_elim, append_assoc, append-nil, arith}
+use Rattle.std.proofs.lemmas.Bool.{cases_eq, cases_lt, eq-eqb, ne_eqb, eqb-true, lt-ltb, le-ltb, and_parts, cond-true, cond-false}
+use Rattle.sums.specs.Cells.{cell_of, place_of}
 use Rattle.sums.specs.Parts.{no_reading}
-use Rattle.sums.specs.Sums.{pick, or, Reading, hour_of, any, belongs, ToldSum, has_told}
+use Rattle.sums.specs.Sums.{pick, or, Reading, any, belongs, ToldSum, has_told}
 use Rattle.sums.proofs.Places.{cell_back, cell_fits}
 use Rattle.sums.proofs.Rising.{rising_hour}
 use Rattle.sums.proofs.Taken.{key_fits}
 use Rattle.promise.specs.Once.{again_after, told_again}
-use Rattle.promise.proofs.Knows.{hour_at, place_at, IsTold, Open, Shut, Over, counted, cell_right, up_to_hour}
+use Rattle.promise.proofs.Knows.{hour_at, place_at, IsTold, Open, Over, counted, cell_right, up_to_hour}
 use Rattle.promise.proofs.Rows.{Fine, fits_at}
 use Rattle.promise.proofs.Views.{first_cell}
 

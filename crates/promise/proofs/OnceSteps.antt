@@ -1,6 +1,6 @@
 -- What a machine keeps in mind of what it told, by its memory and its drawers; each step of it keeps this so.
-use Rattle.std.proofs.Common.{◌≡◌, ℕ, zero, suc, ◌+◌, ◌*◌, ◌<◌, ◌≤◌, true, ◌⊎◌, List, [], ◌∷◌, ◌++◌, length, get_or, set, Some, None, Ok, sym, refl, ap, ◌∙◌, subst, inl, inr, ⊎_elim, add-one, arith, lit<}
-use Rattle.std.proofs.lemmas.Bool.{le-ltb, cond-false, cases_lt, cases_eq, eqb-true, and_parts}
+use Rattle.std.proofs.Common.{◌≡◌, ℕ, zero, suc, ◌+◌, ◌*◌, ◌<◌, ◌≤◌, true, ◌⊎◌, List, [], ◌∷◌, ◌++◌, length, get_or, set, Some, None, Ok, sym, refl, ap, ◌∙◌, subst, inl, inr, ⊎_elim, arith, lit<}
+use Rattle.std.proofs.lemmas.Bool.{le-ltb, cond-false, cases_lt, cases_eq}
 use Rattle.sums.specs.Cells.{places, pages, cell_of, place_of}
 use Rattle.sums.specs.Parts.{no_reading}
 use Rattle.sums.specs.Pages.{page_sums, page_counts}
@@ -26,14 +26,14 @@ use Rattle.machine.specs.Machine.{as_step}
 use Rattle.machine.specs.Boot.{page_fits}
 use Rattle.machine.specs.Entry.{own}
 use Rattle.promise.specs.Once.{told_again}
-use Rattle.promise.proofs.Knows.{hour_at, Open, Shut, Over, Holds, over_end, over_other}
+use Rattle.promise.proofs.Knows.{hour_at, Open, Shut, Over, over_end, over_other}
 use Rattle.promise.proofs.Once.{mark, hand, hand_in, Marked, Exact, Owed, closed_exact, closed_marked, noted_marked, cleared_marked, told_marked, told_exact, told_few}
-use Rattle.promise.proofs.Drawing.{kept_page, open_of, page_there, set_named_back, tables_fit}
+use Rattle.promise.proofs.Drawing.{kept_page, page_there, set_named_back, tables_fit}
 use Rattle.promise.proofs.Machines.{none_and_some}
 use Rattle.promise.proofs.Phases.{at_most_one}
 use Rattle.promise.proofs.Rows.{Fine, fits_at}
-use Rattle.promise.proofs.Runs.{Drawn, Booted, Runs, waking, at_root, at_page, at_cursor, at_rooted, at_placed, at_released, at_comes, at_ends, at_later, at_saved, at_told, at_noted, at_closed, at_done, small}
-use Rattle.promise.proofs.Views.{mem, does, start_mem, first_cell, step_wakes, step_root_none, step_root_some, step_page, step_page_last, step_cursor, step_rooted, step_placed, step_released}
+use Rattle.promise.proofs.Runs.{Drawn, Booted, Runs, waking, at_root, at_page, at_cursor, at_rooted, at_placed, at_released, at_comes, at_ends, at_later, at_saved, at_told, at_noted, at_closed, at_done}
+use Rattle.promise.proofs.Views.{mem, does, start_mem, step_wakes, step_root_none, step_root_some, step_page, step_page_last, step_cursor, step_rooted, step_placed, step_released}
 use Rattle.promise.proofs.Views.{step_takes, step_over, step_ends_shut, step_ends_open, step_done, step_told, step_noted, step_closed, step_filled, step_saved, step_saved_root, tell_cell, tell_close, cell_found}
 
 zeros : length zero_table ≡ places
@@ -143,6 +143,24 @@ module _ (rs : List Reading) (ts : List ToldSum) where
         (λ (ne : phase_in m ≡ 9 → ⊥). ⊎_elim (λ a. inl (a.0, omega (arith, a.1))) (λ b. inr (omega arith)) (o.owed ne))
         (cases_eq (phase_in m) 9);
   })
+
+  -- a stroke elsewhere
+  pub once_more : (s : ℕ) (m : List ℕ) (k : Kept) → Once s m k → Once (suc s) m k
+  once_more s m k o = record {
+    low = o.low;
+    marked = o.marked;
+    hands = o.hands;
+    cursors = o.cursors;
+    owed = λ ne. ⊎_elim (λ a. inl (a.0, omega (arith, a.1))) (λ b. inr (omega arith)) (o.owed ne);
+    fresh = λ e. let f = o.fresh e in (f.0, omega (arith, f.1), f.2);
+  }
+
+  -- told again at most so often
+  pub once_few : (s : ℕ) (m : List ℕ) (k : Kept) → Once s m k → told_again ts ≤ s
+  once_few s m k o = ⊎_elim
+      (λ (e : phase_in m ≡ 9). (o.fresh e).1)
+      (λ (ne : phase_in m ≡ 9 → ⊥). ⊎_elim (λ a. a.1) (λ b. omega arith) (o.owed ne))
+      (cases_eq (phase_in m) 9)
 
 -- what is to hold after an act, by what the drawers stand for then
 abbrev pub AfterAct : (rs : List Reading) (ts : List ToldSum) (s : ℕ) → Drawers → List ℕ → Act → Type 0

@@ -1,35 +1,35 @@
 -- How often rows stand on the wall: what is known of the first machine holds through all that happens, by the strokes so far; the others tell nothing.
-use Rattle.std.proofs.Common.{◌≡◌, ℕ, zero, suc, ◌+◌, ◌<◌, ◌≤◌, true, false, ◌⊎◌, List, [], ◌∷◌, ◌++◌, length, get_or, set, sym, refl, ap, ◌∙◌, subst, inl, inr, ⊎_elim, arith, lit<}
-use Rattle.std.proofs.lemmas.Bool.{cases_lt, cases_eq}
+use Rattle.std.proofs.Common.{◌≡◌, ℕ, zero, suc, ◌+◌, ◌<◌, ◌≤◌, true, false, List, [], ◌∷◌, ◌++◌, length, sym, refl, ap, ◌∙◌, subst, inl, ⊎_elim, arith, lit<}
+use Rattle.std.proofs.lemmas.Bool.{both_ways, cases_lt}
 use Rattle.sums.specs.Sums.{Reading, Gauges, ToldSum, any, gauges_fine}
 use Rattle.sums.specs.Tables.{zero_table}
 use Rattle.sums.proofs.Rising.{rising_hour}
 use Rattle.store.specs.Drawers.{Drawers, drawer_at}
-use Rattle.store.specs.Kept.{Kept, kept, kept_of}
+use Rattle.store.specs.Kept.{kept, kept_of}
 use Rattle.store.specs.Records.{zero_root, zero_cursor, set_number, root, root_of}
 use Rattle.store.specs.declared.records.PageSet.{PageSet}
 use Rattle.store.specs.declared.records.PageSet.TheVariants as page_set
 use Rattle.store.proofs.Boots.{boot_law}
 use Rattle.gauge.specs.Memory.{phase_in}
-use Rattle.machine.specs.Run.{World, Machine, machine, machine_at, set_nth, nth_row, with_machine, Event, wakes, ends, slot, next, one_step, acted, Item, works, poke, brings, falls, happened, all_happened, calm, round, by_each, up_to}
+use Rattle.machine.specs.Run.{World, Machine, machine_at, set_nth, nth_row, with_machine, Event, wakes, ends, slot, next, one_step, acted, Item, works, poke, brings, falls, happened, all_happened, calm, round, up_to}
 use Rattle.machine.specs.Run.{goes, poked, delivered, fallen, new_world, so_many_of, Step, Act, more, from, let_go, sends, keep, recall, tells, rests}
 use Rattle.machine.specs.Entry.{own}
 use Rattle.promise.specs.Promise.{core, others_empty}
-use Rattle.promise.specs.Once.{ToldOnce, told_again, strokes_in}
-use Rattle.promise.proofs.Acts.{on_more, on_poked, state, with_event, with_told}
+use Rattle.promise.specs.Once.{ToldOnce, again_after, told_again, strokes_in}
+use Rattle.promise.proofs.Acts.{on_more, on_poked, state, with_event}
 use Rattle.promise.proofs.Calm.{delivered_none}
 use Rattle.promise.proofs.Core.{keeps_good, start_good, so_many, empty_kept}
 use Rattle.promise.proofs.Drawing.{open_of}
 use Rattle.promise.proofs.Induction.{pick_both, by_each_good}
 use Rattle.promise.proofs.Knows.{hour_at, IsTold, Open}
 use Rattle.promise.proofs.Machines.{at_set_same, at_set_all, at_set_other, past_at, none_and_some}
-use Rattle.promise.proofs.Once.{hand, hand_in, Marked}
-use Rattle.promise.proofs.OnceSteps.{Once, AfterAct, steps_once, asks, fell, mark_kept, hand_kept}
+use Rattle.promise.proofs.Once.{hand, hand_in}
+use Rattle.promise.proofs.OnceSteps.{Once, Waits, AfterAct, steps_once, asks, fell, once_more, once_few}
 use Rattle.promise.proofs.Phases.{at_most_one}
-use Rattle.promise.proofs.Rows.{Fine, row_fine, row_empty}
+use Rattle.promise.proofs.Rows.{row_fine, row_empty}
 use Rattle.promise.proofs.Runs.{Drawn, Booted, Runs, waking, at_root, at_page, at_cursor, at_rooted, at_placed, at_released, at_comes, at_ends, at_later, at_saved, at_told, at_noted, at_closed, at_done}
 use Rattle.promise.proofs.Start.{numbered_at}
-use Rattle.promise.proofs.Turns.{Good, MachineRuns, set_is}
+use Rattle.promise.proofs.Turns.{Good, set_is}
 use Rattle.promise.proofs.Views.{mem, does, start_mem, step_wakes, step_root_none, step_cursor, step_rooted, step_placed, step_released, step_ends_shut, step_done}
 
 -- A MACHINE WHOSE ROW IS EMPTY TELLS NOTHING
@@ -171,6 +171,15 @@ module _ (gs : Gauges) (s : ℕ) where
     on_first (tells hr p x) h = first_set (w.told ++ record { hour = hr; place = p; sum = x } ∷ []) _ h
     on_first rests h = first_set w.told _ h
 
+-- an empty wall
+none_told : (row : List Reading) (j : ℕ) → IsTold row [] j → ⊥
+unfolding any
+none_told row j e = absurd (both_ways false refl e)
+
+none_again : told_again [] ≤ 0
+unfolding again_after
+none_again = omega arith
+
 module _ (gs : Gauges) (fine : gauges_fine gs ≡ true) (known : core gs ≡ true) where
   -- a world that runs as it should, and has told rows again at most so often
   record Once_In (s : ℕ) (w : World) : Type 0 where
@@ -232,3 +241,54 @@ module _ (gs : Gauges) (fine : gauges_fine gs ≡ true) (known : core gs ≡ tru
     unfolding calm
     calm_once zero n w o = o
     calm_once (suc r) n w o = calm_once r n (round n own gs w) (round_once n w o)
+
+  -- a stroke
+  asleep_now : phase_in own.start ≤ 2
+  asleep_now = let e : phase_in own.start ≡ 0 = ap phase_in start_mem in omega arith
+
+  fell_once : (s : ℕ) (w : World) (i : ℕ) → Once_In s w → Once_In (suc s) (fallen own w i)
+  fell_once s w i o = record {
+    good = (keeps_good gs fine known).falls_down w i o.good;
+    first = at_set_all w.machines i 0 _ (First gs (suc s) w.told)
+        (λ e. let x = machine_at w.machines i in
+        fell (nth_row gs 0) w.told s x.memory own.start (kept_of x.slots) asleep_now (subst (λ n. First gs s w.told (machine_at w.machines n)) (sym e) o.first))
+        (once_more (nth_row gs 0) w.told s _ _ o.first);
+  }
+
+  -- all that happens
+  all_once : (is : List Item) (s : ℕ) (w : World) → Once_In s w → Once_In (s + strokes_in is) (all_happened own gs w is)
+  unfolding all_happened happened strokes_in
+  all_once [] s w o = subst (λ n. Once_In n w) (omega arith) o
+  all_once (works i n ∷ is) s w o = all_once is s _ (goes_once s n w i o)
+  all_once (poke i ∷ is) s w o = all_once is s _ (pokes s w i o)
+  all_once (brings i j ∷ is) s w o = all_once is s _ (delivers s w i j o)
+  all_once (falls i ∷ is) s w o = subst (λ n. Once_In n (all_happened own gs (fallen own w i) is)) (omega arith) (all_once is (suc s) _ (fell_once s w i o))
+
+  -- the world at the start
+  start_once : Once_In 0 (new_world own)
+  start_once = record { good = start_good gs fine known; first = subst (λ (x : Machine). First gs 0 [] x) (sym (numbered_at own 8 0 (lit< tt))) at_start }
+    where
+      row : List Reading
+      row = nth_row gs 0
+      blank : kept_of (so_many_of 256 []) ≡ kept zero_root zero_table zero_table zero_cursor
+      blank = ap kept_of (so_many 256) ∙ empty_kept
+      first_hand : (j : ℕ) → j < length row → hour_at row j < hand row 0 0 0 → ⊥
+      first_hand j lt l =
+          let some : 0 < length row = omega arith in
+          omega (arith, hand_in row 0 0 some, rising_hour row 0 j (row_fine gs 0 fine).rises (omega arith) lt)
+      at_start : Once row [] 0 own.start (kept_of (so_many_of 256 []))
+      at_start = asks row [] 0 _ own.start asleep_now (subst (λ k. Waits row [] 0 k) (sym blank) (record {
+        low = omega arith;
+        marked = record {
+          passed = λ j lt l. absurd (first_hand j lt l);
+          ahead = λ j lt t. absurd (none_told row j t);
+          nearest = λ j k lj lk t le. absurd (none_told row j t);
+        };
+        owed = inl (λ j lt t. absurd (none_told row j t), none_again);
+      }))
+
+pub told_once : ToldOnce
+unfolding ToldOnce
+told_once gs is k n fine known =
+    let o = calm_once gs fine known (0 + strokes_in is) k n _ (all_once gs fine known is 0 (new_world own) (start_once gs fine known)) in
+    omega (arith, once_few (nth_row gs 0) _ (0 + strokes_in is) _ _ o.first)
