@@ -95,7 +95,7 @@ module _ (rs : List Reading) (ts : List ToldSum) (fine : Fine rs) where
   cell_low : (j : ℕ) → j < length rs → cell_of (place_at rs j) < 1024
   cell_low j lt = cell_fits (place_at rs j) (key_fits rs j fine.readings lt)
 
-  pub exact_marked : (d e h : ℕ) → Exact rs ts e → ((j : ℕ) → j < length rs → hour_at rs j < h → order_at rs j < e) → Marked rs ts d h → Marked rs ts e h
+  exact_marked : (d e h : ℕ) → Exact rs ts e → ((j : ℕ) → j < length rs → hour_at rs j < h → order_at rs j < e) → Marked rs ts d h → Marked rs ts e h
   exact_marked d e h x p w = record { passed = p; ahead = w.ahead; nearest = λ j k lj lk t le. omega (arith, x j lj t) }
 
   -- the cursor goes past an hour
@@ -126,6 +126,7 @@ module _ (rs : List Reading) (ts : List ToldSum) (fine : Fine rs) where
             let f = fits_at rs (p - 1) fine.readings last in
             omega (arith, hand_past rs h p q, f.time, o.last))
             (cases_lt p (length rs))
+
         early : (j : ℕ) → j < length rs → hour_at rs j < hand rs 0 h p → hour_at rs j ≤ c
         early j lt l = ⊎_elim
             (λ (q : j < p). up_to_hour rs ts fine c p ss cs o j q)
@@ -218,6 +219,7 @@ module _ (rs : List Reading) (ts : List ToldSum) (fine : Fine rs) where
           at_most : (b : Bool) → pick b 1 0 ≤ 1
           at_most true = omega arith
           at_most false = omega arith
+
           go : (b : Bool) → has_told ts c (place_of k) ≡ b → Exact rs ts (mark ch cc) → told_again ts ≤ s → told_again (ts ++ row ∷ []) ≤ s
           go false e exact le = let z : told_again (ts ++ row ∷ []) ≡ told_again ts + 0 = again_last ts row ∙ ap (λ q. told_again ts + pick q 1 0) e in omega (arith, z)
           go true e exact le =

@@ -36,7 +36,7 @@ use Rattle.promise.proofs.Runs.{Drawn, Booted, Runs, waking, at_root, at_page, a
 use Rattle.promise.proofs.Views.{mem, does, start_mem, step_wakes, step_root_none, step_root_some, step_page, step_page_last, step_cursor, step_rooted, step_placed, step_released}
 use Rattle.promise.proofs.Views.{step_takes, step_over, step_ends_shut, step_ends_open, step_done, step_told, step_noted, step_closed, step_filled, step_saved, step_saved_root, tell_cell, tell_close, cell_found}
 
-zeros : length zero_table ≡ places
+pub zeros : length zero_table ≡ places
 unfolding zero_table
 zeros = refl
 
@@ -162,7 +162,7 @@ module _ (rs : List Reading) (ts : List ToldSum) where
       (λ (ne : phase_in m ≡ 9 → ⊥). ⊎_elim (λ a. a.1) (λ b. omega arith) (o.owed ne))
       (cases_eq (phase_in m) 9)
 
--- what is to hold after an act, by what the drawers stand for then
+-- what is to hold after an act, by what the drawers stand for then; nothing is sent
 abbrev pub AfterAct : (rs : List Reading) (ts : List ToldSum) (s : ℕ) → Drawers → List ℕ → Act → Type 0
 AfterAct rs ts s ds m more = Once rs ts s m (kept_of ds)
 AfterAct rs ts s ds m (from p) = Once rs ts s m (kept_of ds)
@@ -178,7 +178,7 @@ hand_some rs page_set.None h p some = absurd (some refl)
 hand_some rs page_set.First h p some = refl
 hand_some rs page_set.Second h p some = refl
 
-first_same : (ev : Event) (evs : List Event) → ev ∷ evs ≡ next ∷ [] → ev ≡ next
+pub first_same : (ev : Event) (evs : List Event) → ev ∷ evs ≡ next ∷ [] → ev ≡ next
 first_same ev evs e = cc
 
 module _ (rs : List Reading) (ts : List ToldSum) (fine : Fine rs) (s : ℕ) where
@@ -205,20 +205,24 @@ module _ (rs : List Reading) (ts : List ToldSum) (fine : Fine rs) (s : ℕ) wher
       where
         w : Waits rs ts s K
         w = waits rs ts s K _ (λ z. omega arith) o
+
         blank_or_not : (p : PageSet) → (p ≡ page_set.None) ⊎ (p ≡ page_set.None → ⊥)
         blank_or_not page_set.None = inl refl
         blank_or_not page_set.First = inr (λ e. let z : ◌≡◌ {A = ℕ} 0 1 = cc in omega arith)
         blank_or_not page_set.Second = inr (λ e. let z : ◌≡◌ {A = ℕ} 0 1 = cc in omega arith)
+
         number_some : (p : PageSet) → (p ≡ page_set.None → ⊥) → set_number p ≡ 0 → ⊥
         number_some page_set.None some e = some refl
         number_some page_set.First some e = omega arith
         number_some page_set.Second some e = omega arith
+
         blank_root : K.root.set ≡ page_set.None → After ds (own.step (mem 1 0 0 0 0 0 0 0 zero_table zero_table) (slot (drawer_at ds 0)))
         blank_root none =
             let is-root : root_of (drawer_at ds 0) ≡ root page_set.None K.root.hour K.root.pos = sym (boot_law.root ds) ∙ ap (λ p. root p K.root.hour K.root.pos) none in
             seen ds _ _ (mem 3 0 0 K.root.hour K.root.pos 0 0 0 zero_table zero_table) (recall 2)
             (step_root_none 0 0 0 0 0 0 0 zero_table zero_table zeros zeros (drawer_at ds 0) K.root.hour K.root.pos is-root d.root_fits.hour d.root_fits.pos)
             (asks_last rs ts s K _ refl w (sym (ap (λ p. hand rs (set_number p) K.root.hour K.root.pos) none)))
+
         some_root : (K.root.set ≡ page_set.None → ⊥) → After ds (own.step (mem 1 0 0 0 0 0 0 0 zero_table zero_table) (slot (drawer_at ds 0)))
         some_root some =
             let there = page_has_drawer K.root.set 0 some (lit< tt) in
@@ -254,10 +258,13 @@ module _ (rs : List Reading) (ts : List ToldSum) (fine : Fine rs) (s : ℕ) wher
         where
           w : Waits rs ts s K
           w = waits rs ts s K _ (λ z. omega arith) o
+
           low : p < 8
           low = page_within K.root.set p e at
+
           fit : page_fits bs ≡ true
           fit = page_there rs ts gone ds fine d p e some at
+
           no_page : (x : PageSet) (q : ℕ) → 8 ≤ q → page_drawer x q ≡ None
           no_page page_set.None q le = refl
           no_page page_set.First q le = cond-false _ _ _ (le-ltb q 8 le)

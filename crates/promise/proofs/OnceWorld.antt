@@ -24,7 +24,7 @@ use Rattle.promise.proofs.Induction.{pick_both, by_each_good}
 use Rattle.promise.proofs.Knows.{hour_at, IsTold, Open}
 use Rattle.promise.proofs.Machines.{at_set_same, at_set_all, at_set_other, past_at, none_and_some}
 use Rattle.promise.proofs.Once.{hand, hand_in}
-use Rattle.promise.proofs.OnceSteps.{Once, Waits, AfterAct, steps_once, asks, fell, once_more, once_few}
+use Rattle.promise.proofs.OnceSteps.{zeros, first_same, Once, Waits, AfterAct, steps_once, asks, fell, once_more, once_few}
 use Rattle.promise.proofs.Phases.{at_most_one}
 use Rattle.promise.proofs.Rows.{row_fine, row_empty}
 use Rattle.promise.proofs.Runs.{Drawn, Booted, Runs, waking, at_root, at_page, at_cursor, at_rooted, at_placed, at_released, at_comes, at_ends, at_later, at_saved, at_told, at_noted, at_closed, at_done}
@@ -42,10 +42,6 @@ Silent (keep d bs) = Unit
 Silent (recall d) = Unit
 Silent (tells h p x) = ⊥
 Silent rests = Unit
-
-zeros : length zero_table ≡ 1024
-unfolding zero_table
-zeros = refl
 
 module _ (rs : List Reading) (ts : List ToldSum) (empty : length rs ≡ 0) where
   hush : (m : List ℕ) (ev : Event) (m₁ : List ℕ) (a : Act) → own.step m ev ≡ does m₁ a → Silent a → Silent (own.step m ev).act
@@ -90,9 +86,6 @@ module _ (rs : List Reading) (ts : List ToldSum) (empty : length rs ≡ 0) where
   later_never (suc zero) hr ps st ch cc gone ds ss cs b f full = none_open hr ps ss cs b.holds
   later_never (suc (suc n)) hr ps st ch cc gone ds ss cs b f full = absurd (omega (arith, at_most_one (suc (suc n)) b.flag))
 
-  next_same : (ev : Event) (evs : List Event) → ev ∷ evs ≡ next ∷ [] → ev ≡ next
-  next_same ev evs e = cc
-
   pub all_silent : (m : List ℕ) (ev : Event) (evs : List Event) (at gone : ℕ) (ds : Drawers) → Runs rs ts m (ev ∷ evs) at gone ds → Silent (own.step m ev).act
   all_silent _ _ _ _ _ _ (waking k gone ds d) =
       hush own.start (wakes k) (mem 1 0 0 0 0 0 0 0 zero_table zero_table) (recall 0)
@@ -115,7 +108,7 @@ module _ (rs : List Reading) (ts : List ToldSum) (empty : length rs ≡ 0) where
   all_silent _ _ _ _ _ _ (at_closed ix hr ps st at gone ds ss cs b over) = none_open hr ps ss cs b.holds
   all_silent _ ev evs _ _ _ (at_done _ ix hr ps st ch cc at ds ss cs b end which) =
       ⊎_elim (λ none. none_and_some ev evs none)
-      (λ e. subst (λ x. Silent (own.step (mem 12 ix 0 hr ps st ch cc ss cs) x).act) (sym (next_same ev evs e))
+      (λ e. subst (λ x. Silent (own.step (mem 12 ix 0 hr ps st ch cc ss cs) x).act) (sym (first_same ev evs e))
       (hush _ next (mem 12 ix 0 hr ps st ch cc ss cs) rests (step_done ix 0 hr ps st ch cc ss cs b.sums_length b.counts_length) tt)) which
 
 -- rows but the first are empty
@@ -182,12 +175,12 @@ none_again = omega arith
 
 module _ (gs : Gauges) (fine : gauges_fine gs ≡ true) (known : core gs ≡ true) where
   -- a world that runs as it should, and has told rows again at most so often
-  record Once_In (s : ℕ) (w : World) : Type 0 where
+  record OnceIn (s : ℕ) (w : World) : Type 0 where
     good : Good gs w
     first : FirstIn gs s w
 
   module _ (s : ℕ) where
-    step_first : (w : World) → Once_In s w → (evs : List Event) → (machine_at w.machines 0).pending ≡ evs → FirstIn gs s (one_step own gs w 0 evs)
+    step_first : (w : World) → OnceIn s w → (evs : List Event) → (machine_at w.machines 0).pending ≡ evs → FirstIn gs s (one_step own gs w 0 evs)
     unfolding one_step
     step_first w o [] e = o.first
     step_first w o (ev ∷ evs) e =
@@ -196,7 +189,7 @@ module _ (gs : Gauges) (fine : gauges_fine gs ≡ true) (known : core gs ≡ tru
         (steps_once (nth_row gs 0) w.told (row_fine gs 0 fine) s x.memory ev evs x.reads_at x.gone x.slots
         (subst (λ l. Runs (nth_row gs 0) w.told x.memory l x.reads_at x.gone x.slots) e (o.good.each 0 (lit< tt))) o.first)
 
-    step_other : (w : World) (j : ℕ) → Once_In s w → (evs : List Event) → (machine_at w.machines (suc j)).pending ≡ evs → FirstIn gs s (one_step own gs w (suc j) evs)
+    step_other : (w : World) (j : ℕ) → OnceIn s w → (evs : List Event) → (machine_at w.machines (suc j)).pending ≡ evs → FirstIn gs s (one_step own gs w (suc j) evs)
     unfolding one_step
     step_other w j o [] e = o.first
     step_other w j o (ev ∷ evs) e = ⊎_elim
@@ -208,14 +201,14 @@ module _ (gs : Gauges) (fine : gauges_fine gs ≡ true) (known : core gs ≡ tru
         (λ (ge : 8 ≤ suc j). none_and_some ev evs (sym e ∙ past_at w.machines (suc j) (omega (arith, o.good.eight))))
         (cases_lt (suc j) 8)
 
-    step_any : (w : World) (i : ℕ) → Once_In s w → FirstIn gs s (one_step own gs w i (machine_at w.machines i).pending)
+    step_any : (w : World) (i : ℕ) → OnceIn s w → FirstIn gs s (one_step own gs w i (machine_at w.machines i).pending)
     step_any w zero o = step_first w o _ refl
     step_any w (suc j) o = step_other w j o _ refl
 
-    steps : (w : World) (i : ℕ) → w.fault ≡ false → Once_In s w → Once_In s (one_step own gs w i (machine_at w.machines i).pending)
+    steps : (w : World) (i : ℕ) → w.fault ≡ false → OnceIn s w → OnceIn s (one_step own gs w i (machine_at w.machines i).pending)
     steps w i f o = record { good = (keeps_good gs fine known).steps w i f o.good; first = step_any w i o }
 
-    pokes : (w : World) (i : ℕ) → Once_In s w → Once_In s (poked w i)
+    pokes : (w : World) (i : ℕ) → OnceIn s w → OnceIn s (poked w i)
     pokes w i o = record {
       good = (keeps_good gs fine known).pokes w i o.good;
       first = on_poked w (FirstIn gs s) i
@@ -223,21 +216,21 @@ module _ (gs : Gauges) (fine : gauges_fine gs ≡ true) (known : core gs ≡ tru
           (λ _. o.first);
     }
 
-    delivers : (w : World) (i j : ℕ) → Once_In s w → Once_In s (delivered w i j)
-    delivers w i j o = subst (Once_In s) (sym (delivered_none w i j o.good.wires)) o
+    delivers : (w : World) (i j : ℕ) → OnceIn s w → OnceIn s (delivered w i j)
+    delivers w i j o = subst (OnceIn s) (sym (delivered_none w i j o.good.wires)) o
 
     -- without strokes
-    goes_once : (n : ℕ) (w : World) (i : ℕ) → Once_In s w → Once_In s (goes n own gs w i)
+    goes_once : (n : ℕ) (w : World) (i : ℕ) → OnceIn s w → OnceIn s (goes n own gs w i)
     unfolding goes
     goes_once zero w i o = o
-    goes_once (suc n) w i o = pick_both w.fault w _ (Once_In s) (λ _. o) (λ h. goes_once n _ i (steps w i h o))
+    goes_once (suc n) w i o = pick_both w.fault w _ (OnceIn s) (λ _. o) (λ h. goes_once n _ i (steps w i h o))
 
-    round_once : (n : ℕ) (w : World) → Once_In s w → Once_In s (round n own gs w)
+    round_once : (n : ℕ) (w : World) → OnceIn s w → OnceIn s (round n own gs w)
     round_once n w o =
-        by_each_good (Once_In s) _ (λ u j h. by_each_good (Once_In s) _ (λ t i q. goes_once n _ j (delivers t i j q)) (up_to 8) u h) (up_to 8) _
-        (by_each_good (Once_In s) _ (λ u i h. goes_once n _ i (pokes u i h)) (up_to 8) w o)
+        by_each_good (OnceIn s) _ (λ u j h. by_each_good (OnceIn s) _ (λ t i q. goes_once n _ j (delivers t i j q)) (up_to 8) u h) (up_to 8) _
+        (by_each_good (OnceIn s) _ (λ u i h. goes_once n _ i (pokes u i h)) (up_to 8) w o)
 
-    calm_once : (r n : ℕ) (w : World) → Once_In s w → Once_In s (calm r n own gs w)
+    calm_once : (r n : ℕ) (w : World) → OnceIn s w → OnceIn s (calm r n own gs w)
     unfolding calm
     calm_once zero n w o = o
     calm_once (suc r) n w o = calm_once r n (round n own gs w) (round_once n w o)
@@ -246,7 +239,7 @@ module _ (gs : Gauges) (fine : gauges_fine gs ≡ true) (known : core gs ≡ tru
   asleep_now : phase_in own.start ≤ 2
   asleep_now = let e : phase_in own.start ≡ 0 = ap phase_in start_mem in omega arith
 
-  fell_once : (s : ℕ) (w : World) (i : ℕ) → Once_In s w → Once_In (suc s) (fallen own w i)
+  fell_once : (s : ℕ) (w : World) (i : ℕ) → OnceIn s w → OnceIn (suc s) (fallen own w i)
   fell_once s w i o = record {
     good = (keeps_good gs fine known).falls_down w i o.good;
     first = at_set_all w.machines i 0 _ (First gs (suc s) w.told)
@@ -256,26 +249,29 @@ module _ (gs : Gauges) (fine : gauges_fine gs ≡ true) (known : core gs ≡ tru
   }
 
   -- all that happens
-  all_once : (is : List Item) (s : ℕ) (w : World) → Once_In s w → Once_In (s + strokes_in is) (all_happened own gs w is)
+  all_once : (is : List Item) (s : ℕ) (w : World) → OnceIn s w → OnceIn (s + strokes_in is) (all_happened own gs w is)
   unfolding all_happened happened strokes_in
-  all_once [] s w o = subst (λ n. Once_In n w) (omega arith) o
+  all_once [] s w o = subst (λ n. OnceIn n w) (omega arith) o
   all_once (works i n ∷ is) s w o = all_once is s _ (goes_once s n w i o)
   all_once (poke i ∷ is) s w o = all_once is s _ (pokes s w i o)
   all_once (brings i j ∷ is) s w o = all_once is s _ (delivers s w i j o)
-  all_once (falls i ∷ is) s w o = subst (λ n. Once_In n (all_happened own gs (fallen own w i) is)) (omega arith) (all_once is (suc s) _ (fell_once s w i o))
+  all_once (falls i ∷ is) s w o = subst (λ n. OnceIn n (all_happened own gs (fallen own w i) is)) (omega arith) (all_once is (suc s) _ (fell_once s w i o))
 
   -- the world at the start
-  start_once : Once_In 0 (new_world own)
+  start_once : OnceIn 0 (new_world own)
   start_once = record { good = start_good gs fine known; first = subst (λ (x : Machine). First gs 0 [] x) (sym (numbered_at own 8 0 (lit< tt))) at_start }
     where
       row : List Reading
       row = nth_row gs 0
+
       blank : kept_of (so_many_of 256 []) ≡ kept zero_root zero_table zero_table zero_cursor
       blank = ap kept_of (so_many 256) ∙ empty_kept
+
       first_hand : (j : ℕ) → j < length row → hour_at row j < hand row 0 0 0 → ⊥
       first_hand j lt l =
           let some : 0 < length row = omega arith in
           omega (arith, hand_in row 0 0 some, rising_hour row 0 j (row_fine gs 0 fine).rises (omega arith) lt)
+
       at_start : Once row [] 0 own.start (kept_of (so_many_of 256 []))
       at_start = asks row [] 0 _ own.start asleep_now (subst (λ k. Waits row [] 0 k) (sym blank) (record {
         low = omega arith;
