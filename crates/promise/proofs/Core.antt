@@ -85,12 +85,12 @@ module _ (rs : List Reading) (ts : List ToldSum) where
         (λ j lt w. ⊎_elim (λ (l : hour_at rs j < 0). absurd (omega arith)) (λ l. absurd (omega (arith, l.1))) w);
   }
 
-so_many : (n : ℕ) → so_many_of {A = List ℕ} n [] ≡ replicate n []
+pub so_many : (n : ℕ) → so_many_of {A = List ℕ} n [] ≡ replicate n []
 unfolding so_many_of
 so_many zero = refl
 so_many (suc n) = ap (λ l. [] ∷ l) (so_many n)
 
-empty_kept : kept_of (replicate 256 []) ≡ kept zero_root zero_table zero_table zero_cursor
+pub empty_kept : kept_of (replicate 256 []) ≡ kept zero_root zero_table zero_table zero_cursor
 unfolding EmptyLaw
 empty_kept = empty
 

@@ -14,3 +14,6 @@ pub mod Others
 pub mod Calm
 pub mod Laws
 pub mod Core
+pub mod Once
+pub mod OnceSteps
+pub mod OnceWorld

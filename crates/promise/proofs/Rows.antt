@@ -86,7 +86,7 @@ unfolding every all_of
 all_empty [] h = refl
 all_empty (rs ∷ gs) h = rw (none_nil rs (and_parts _ _ h).0) (all_empty gs (and_parts (none_of rs) _ h).1)
 
-row_empty : (gs : Gauges) (j : ℕ) → every none_of gs ≡ true → nth_row gs j ≡ []
+pub row_empty : (gs : Gauges) (j : ℕ) → every none_of gs ≡ true → nth_row gs j ≡ []
 unfolding every nth_row
 row_empty [] j h = refl
 row_empty (rs ∷ gs) zero h = none_nil rs (and_parts _ _ h).0

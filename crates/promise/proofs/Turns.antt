@@ -61,7 +61,7 @@ row_is [] d = refl
 row_is (x ∷ ds) zero = refl
 row_is (x ∷ ds) (suc d) = row_is ds d
 
-set_is : (ds : Drawers) (d : ℕ) (bs : List ℕ) → set_nth ds d bs ≡ set ds d bs
+pub set_is : (ds : Drawers) (d : ℕ) (bs : List ℕ) → set_nth ds d bs ≡ set ds d bs
 unfolding set_nth
 set_is [] d bs = refl
 set_is (x ∷ ds) zero bs = refl

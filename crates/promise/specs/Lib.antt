@@ -1,3 +1,4 @@
 pub mod Promise
 pub mod Released
 pub mod Ever
+pub mod Once

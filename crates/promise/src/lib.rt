@@ -5,6 +5,7 @@ ghost use Rattle.machine.specs.Entry.{own};
 ghost use Rattle.promise.specs.Promise.{InOrder, Outlives, NeverBack, Whole, core};
 ghost use Rattle.promise.specs.Released.{ReleasedKept, AllReleased};
 ghost use Rattle.promise.specs.Ever.{EverWhole};
+ghost use Rattle.promise.specs.Once.{ToldOnce};
 
 // Theorem: letters between two machines come in the order in which they were sent.
 pub fn in_order()
@@ -40,4 +41,9 @@ pub fn released_kept()
 // Theorem: after some calm the whole row of each gauge is released.
 pub fn all_released()
     ensures { AllReleased }
+{}
+
+// Theorem: a row is told again at most once for each stroke of lightning.
+pub fn told_once()
+    ensures { ToldOnce }
 {}
