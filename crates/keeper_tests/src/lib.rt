@@ -9,9 +9,12 @@ mod tests {
 
     const RIVER: &str = "gauge 0\n10 1 4\n50 2 0\n130 1 7\n170 1 5\n390 1023 4294967295\n";
 
-    // A station's files in a folder of their own.
+    // A station's files in a folder of their own, without what an earlier run left there.
     fn options(rt: &HostRuntime, name: &str) -> Result<Options, Fail> {
         let heap = rt.alloc();
+        if fs::exists(rt, name)? {
+            fs::remove_dir_all(rt, name)?;
+        }
         fs::create_dir(rt, name)?;
         let gauge = format!(in heap; "{name}/gauge")?;
         fs::write(rt, gauge.as_str(), RIVER)?;
