@@ -9,6 +9,7 @@ mod tests {
     use river::{Item, parse};
     use std::alloc::Global;
     use std::test::Fail;
+    use world::Kind;
 
     const SHORT: &str = "gauge 0\n10 1 4\n50 2 0\n130 1 7\nhappens\nworks 0 30\ncalm 1 100\n";
 
@@ -123,6 +124,19 @@ mod tests {
         let river = parse(heap, SHORT)?;
         let text = chance::river_text(heap, river.gauges.as_slice(), river.items.as_slice())?;
         assert!(rt; text.as_str() == SHORT);
+        Ok(())
+    }
+
+    // Each kind of act once, in the order in which they are printed.
+    #[test]
+    fn kinds_of_acts(rt: HostRuntime) -> Result<(), Fail> {
+        let heap = rt.alloc();
+        let mut names = String::new(heap);
+        for kind in Kind::ALL {
+            names.push_str(format!(in heap; "{kind} ")?.as_str())?;
+        }
+        let wanted = "asked sought released sent kept recalled told rested faults ";
+        assert!(rt; names.as_str() == wanted);
         Ok(())
     }
 

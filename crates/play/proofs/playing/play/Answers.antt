@@ -1,4 +1,4 @@
-use Rattle.std.proofs.Common.{◌≡◌, get_or, sym, ap, ◌∙◌, subst}
+use Rattle.std.proofs.Common.{get_or, sym, ◌∙◌, subst}
 use Rattle.std.proofs.lemmas.List.{take_all}
 use Rattle.sums.specs.Readings.{as_gauges}
 use Rattle.machine.specs.Entry.{own}
@@ -33,5 +33,5 @@ returns c =
     let gs = as_gauges c.args.gauges.now in
     let u = c.loop-item.world in
     let all = subst (λ its. Passed gs (new_world own) none_counted (unrolled its) (as_world u) u.tally.counts) (take_all c.loop-item.item-index c.args.items.now c.loop-item-test.false)
-        c.loop-item.invariant in
+    c.loop-item.invariant in
     record { world = all.world; counts = all.counts; right = λ fine known. subst (Safe gs) (sym all.world) (ever_safe gs (unrolled c.args.items.now) fine known) }

@@ -1,6 +1,6 @@
-use Rattle.std.proofs.Common.{◌≡◌, ◌≤◌, sym, subst, arith}
+use Rattle.std.proofs.Common.{◌≡◌, sym, subst, arith}
 use Rattle.sums.specs.Readings.{as_gauges}
-use Rattle.world.specs.Rounds.{a_round, all_rounds}
+use Rattle.world.specs.Rounds.{all_rounds}
 use Rattle.world.specs.Worlds.{as_world, Passed}
 use Rattle.world.proofs.Unrolling.{rounds_more}
 use Rattle.world.proofs.Tallying.{passed_none, passed_both}

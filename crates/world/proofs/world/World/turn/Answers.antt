@@ -40,7 +40,7 @@ returns c =
     let gs = as_gauges c.args.gauges.now in
     record {
       world = c.in_ok-post.ensures.world ∙ ap (λ u. posted u c.args.i c.in-Some-2.effect) (hut_set hs (as_world w) c.args.i c.take_turn.new.self)
-      ∙ went gs (as_world w) c.args.i (as_machine h) (as_machine c.take_turn.new.self) _ seen turned;
+          ∙ went gs (as_world w) c.args.i (as_machine h) (as_machine c.take_turn.new.self) _ seen turned;
       counts = λ calm. c.count.ensures ∙ ap₂ counted c.in_ok-post.ensures.counts c.from-kind.ensures
-      ∙ sym (turn_counted gs (as_world w) c.args.i (as_machine h) (as_machine c.take_turn.new.self) c.in-Some-2.effect w.tally.counts seen calm turned);
+          ∙ sym (turn_counted gs (as_world w) c.args.i (as_machine h) (as_machine c.take_turn.new.self) c.in-Some-2.effect w.tally.counts seen calm turned);
     }
