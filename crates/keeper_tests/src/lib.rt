@@ -232,9 +232,9 @@ mod tests {
         }
     }
 
+    // Whatever it hears, it works till all is told.
     #[test]
     fn lines_that_are_heard(rt: HostRuntime) -> Result<(), Fail> {
-        let options = options(&rt, "heard")?;
         for line in [
             "poke",
             "",
@@ -243,10 +243,10 @@ mod tests {
             "from 0",
             "poke # again",
         ] {
+            let options = options(&rt, "heard")?;
             assert!(rt; heard(&rt, &options, line)?.is_empty());
+            assert_eq!(rt; repeated(&rt, &options)?, 0);
         }
-        // the empty line let it work till all was told
-        assert_eq!(rt; repeated(&rt, &options)?, 0);
         Ok(())
     }
 
