@@ -69,7 +69,7 @@ impl Station {
         }
     }
 
-    // Tells the machine what a line of its wires says, and lets it work.
+    // Tells the machine what a line of its wires says, once it rests, and lets it work.
     pub fn hear(&mut self, rt: &HostRuntime, line: &str) -> anyhow::Result<()> {
         self.lines = self.lines.saturating_add(1);
         let number = self.lines;
@@ -77,6 +77,7 @@ impl Station {
             "wires, line {number}: {error}"
         ))?;
         if let Some(event) = heard {
+            self.work(rt, u64::MAX)?;
             self.hut.hear(event);
         }
         self.work(rt, u64::MAX)?;

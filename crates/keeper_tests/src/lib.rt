@@ -9,9 +9,12 @@ mod tests {
 
     const RIVER: &str = "gauge 0\n10 1 4\n50 2 0\n130 1 7\n170 1 5\n390 1023 4294967295\n";
 
-    // A station's files in a folder of their own.
+    // A station's files in a folder of their own, without what an earlier run left there.
     fn options(rt: &HostRuntime, name: &str) -> Result<Options, Fail> {
         let heap = rt.alloc();
+        if fs::exists(rt, name)? {
+            fs::remove_dir_all(rt, name)?;
+        }
         fs::create_dir(rt, name)?;
         let gauge = format!(in heap; "{name}/gauge")?;
         fs::write(rt, gauge.as_str(), RIVER)?;
@@ -59,6 +62,7 @@ mod tests {
     #[test]
     fn calm(rt: HostRuntime) -> Result<(), Fail> {
         let options = options(&rt, "calm")?;
+        assert!(rt; !turns(&rt, &options, 3)?);
         assert!(rt; turns(&rt, &options, 1000)?);
         assert_eq!(rt; repeated(&rt, &options)?, 0);
         // all is told, so nothing more is
@@ -87,6 +91,58 @@ mod tests {
         }
         assert!(rt; turns(&rt, &options, 1000)?);
         let _repeated = repeated(&rt, &options)?;
+        Ok(())
+    }
+
+    // A drawer that cannot be written, since what is written beside it is a folder: what a station says of it.
+    fn stuck(rt: &HostRuntime, options: &Options, drawer: u64) -> Result<String, Fail> {
+        let heap = rt.alloc();
+        let drawers = options.drawers.as_str();
+        let beside = format!(in heap; "{drawers}/drawer-{drawer}.new")?;
+        fs::create_dir(rt, beside.as_str())?;
+        let mut station = Station::open(rt, options)?;
+        match station.work(rt, 1000) {
+            Ok(_) => Err(Fail::new("the drawer is written")),
+            Err(error) => Ok(format!(in heap; "{error}")?),
+        }
+    }
+
+    // The cursor is in drawer 2.
+    #[test]
+    fn a_row_is_on_the_wall_before_its_cursor_is_kept(rt: HostRuntime) -> Result<(), Fail> {
+        let options = options(&rt, "row-first")?;
+        assert!(rt;
+            stuck(&rt, &options, 2)?
+                .as_str()
+                .starts_with("row-first/drawers/drawer-2 cannot be written")
+        );
+        assert!(rt;
+            fs::read_to_string(&rt, options.wall.as_str())?.as_str() == "hour 0 place 1: 4\n"
+        );
+        Ok(())
+    }
+
+    // The root is in drawer 0.
+    #[test]
+    fn nothing_is_released_before_its_root_is_kept(rt: HostRuntime) -> Result<(), Fail> {
+        let options = options(&rt, "root-first")?;
+        assert!(rt;
+            stuck(&rt, &options, 0)?
+                .as_str()
+                .starts_with("root-first/drawers/drawer-0 cannot be written")
+        );
+        assert!(rt; fs::exists(&rt, "root-first/drawers/drawer-2")?);
+        assert!(rt; fs::read_to_string(&rt, "root-first/drawers/released")?.as_str() == "0\n");
+        Ok(())
+    }
+
+    // Each machine reads its own gauge, and only the first has readings.
+    #[test]
+    fn a_quiet_gauge(rt: HostRuntime) -> Result<(), Fail> {
+        let mut options = options(&rt, "quiet")?;
+        options.machine = 3;
+        assert!(rt; turns(&rt, &options, 1000)?);
+        assert!(rt; fs::read_to_string(&rt, options.wall.as_str())?.is_empty());
         Ok(())
     }
 
@@ -124,6 +180,12 @@ mod tests {
                 == "bad/drawers/drawer-255 is no drawer: it has more than 4096 bytes"
         );
         fs::remove_file(&rt, "bad/drawers/drawer-255")?;
+        fs::create_dir(&rt, "bad/drawers/drawer-0")?;
+        assert!(rt;
+            refusal(&rt, &options)?
+                .as_str()
+                .starts_with("bad/drawers/drawer-0 cannot be read")
+        );
         options.drawers = format!(in heap; "bad/none")?;
         assert!(rt;
             refusal(&rt, &options)?.as_str() == "there is no folder bad/none for the drawers"
@@ -170,9 +232,9 @@ mod tests {
         }
     }
 
+    // Whatever it hears, it works till all is told.
     #[test]
     fn lines_that_are_heard(rt: HostRuntime) -> Result<(), Fail> {
-        let options = options(&rt, "heard")?;
         for line in [
             "poke",
             "",
@@ -181,7 +243,9 @@ mod tests {
             "from 0",
             "poke # again",
         ] {
+            let options = options(&rt, "heard")?;
             assert!(rt; heard(&rt, &options, line)?.is_empty());
+            assert_eq!(rt; repeated(&rt, &options)?, 0);
         }
         Ok(())
     }
@@ -253,8 +317,13 @@ mod tests {
         match Request::read(list) {
             Ok(Request::Help) => Ok(format!(in heap; "help")?),
             Ok(Request::Run(options)) => {
-                let machine = options.machine;
-                Ok(format!(in heap; "machine {machine}")?)
+                let Options {
+                    machine,
+                    drawers,
+                    gauge,
+                    wall,
+                } = options;
+                Ok(format!(in heap; "{machine} {drawers} {gauge} {wall}")?)
             }
             Err(error) => Ok(format!(in heap; "{error}")?),
         }
@@ -262,7 +331,7 @@ mod tests {
 
     #[test]
     fn words(rt: HostRuntime) -> Result<(), Fail> {
-        assert!(rt; usage(&rt, "7 --drawers d --gauge g --wall w")?.as_str() == "machine 7");
+        assert!(rt; usage(&rt, "7 --drawers d --gauge g --wall w")?.as_str() == "7 d g w");
         assert!(rt; usage(&rt, "--help")?.as_str() == "help");
         assert!(rt;
             usage(&rt, "8 --drawers d --gauge g --wall w")?.as_str()

@@ -1,7 +1,8 @@
 // What happens in a river: calm written out, and strokes put in.
 ghost use Rattle.std.specs.Prelude.{◌≡◌, true, IfOk, OnOk};
 ghost use Rattle.sums.specs.Sums.{every};
-ghost use Rattle.play.specs.Plays.{pokes, letters_to, a_round, all_rounds, written_out, unrolled, is_plain};
+ghost use Rattle.world.specs.Rounds.{pokes, letters_to, a_round, all_rounds, written_out};
+ghost use Rattle.play.specs.Plays.{unrolled, is_plain};
 ghost use Rattle.play.specs.Courses.{Grown, StruckSays};
 ghost use Rattle.play.specs.declared.course.StrikeError.TheVariants.{Memory};
 

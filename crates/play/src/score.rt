@@ -1,7 +1,11 @@
 // What is counted of rivers that were played.
-ghost use Rattle.std.specs.Prelude.{◌≡◌, ◌+◌, ◌*◌, ◌/◌, ◌%◌, length, IfOk, vec_len, MatchOption};
+ghost use Rattle.std.specs.Prelude.{◌≡◌, ◌+◌, ◌*◌, ◌/◌, ◌%◌, IfOk, MatchOption};
+ghost use Rattle.sums.specs.Readings.{as_gauges};
+ghost use Rattle.machine.specs.Entry.{own};
+ghost use Rattle.machine.specs.Run.{new_world};
 ghost use Rattle.rows.specs.Walls.{as_wall};
-ghost use Rattle.play.specs.Scores.{told_again};
+ghost use Rattle.world.specs.Tallies.{none_counted};
+ghost use Rattle.play.specs.Scores.{told_again, acts_of_each};
 
 use river::Item;
 use rows::Row;
@@ -17,7 +21,7 @@ pub fn acts_of(
     gauges: &[Vec<Reading>],
     items: &[Item],
 ) -> Result<Vec<u64>, AllocError>
-    ensures { IfOk result (λ v. vec_len v ≡ length items.now) }
+    ensures { IfOk result (λ v. v.items ≡ acts_of_each (as_gauges gauges.now) (new_world own) none_counted items.now) }
 {
     let mut world = World::new(heap)?;
     let mut acts = Vec::new(heap);

@@ -5,10 +5,11 @@
 mod tests {
     use chance::Random;
     use play::{Ratio, Score, StrikeError, Verdict};
-    use player_args::{ArgsError, Command, Strokes, command_of};
+    use player_args::{ArgsError, Command, command_of};
     use river::{Item, parse};
     use std::alloc::Global;
     use std::test::Fail;
+    use world::Kind;
 
     const SHORT: &str = "gauge 0\n10 1 4\n50 2 0\n130 1 7\nhappens\nworks 0 30\ncalm 1 100\n";
 
@@ -99,12 +100,43 @@ mod tests {
         Ok(())
     }
 
+    // Machine 0 boots, reads, tells three rows and rests in 25 acts; then it does none till it is poked, and then rests.
+    #[test]
+    fn acts_of_each_item(rt: HostRuntime) -> Result<(), Fail> {
+        let heap = rt.alloc();
+        let river = parse(heap, SHORT)?;
+        let items = [
+            Item::Works(0, 7),
+            Item::Falls(3),
+            Item::Works(0, 30),
+            Item::Works(0, 1),
+            Item::Poke(0),
+            Item::Works(0, 9),
+        ];
+        let acts = play::acts_of(heap, river.gauges.as_slice(), &items)?;
+        assert!(rt; acts.as_slice() == [7, 0, 18, 0, 0, 1].as_slice());
+        Ok(())
+    }
+
     #[test]
     fn text_is_read_back(rt: HostRuntime) -> Result<(), Fail> {
         let heap = rt.alloc();
         let river = parse(heap, SHORT)?;
         let text = chance::river_text(heap, river.gauges.as_slice(), river.items.as_slice())?;
         assert!(rt; text.as_str() == SHORT);
+        Ok(())
+    }
+
+    // Each kind of act once, in the order in which they are printed.
+    #[test]
+    fn kinds_of_acts(rt: HostRuntime) -> Result<(), Fail> {
+        let heap = rt.alloc();
+        let mut names = String::new(heap);
+        for kind in Kind::ALL {
+            names.push_str(format!(in heap; "{kind} ")?.as_str())?;
+        }
+        let wanted = "asked sought released sent kept recalled told rested faults ";
+        assert!(rt; names.as_str() == wanted);
         Ok(())
     }
 
@@ -115,6 +147,10 @@ mod tests {
             return Err(Fail::new("this can be divided"));
         };
         assert!(rt; format!(in heap; "{ratio}")?.as_str() == "3.14");
+        let Some(ratio) = Ratio::new(61, 20) else {
+            return Err(Fail::new("this can be divided"));
+        };
+        assert!(rt; format!(in heap; "{ratio}")?.as_str() == "3.05");
         assert!(rt; Ratio::new(1, 0) == None);
         Ok(())
     }
@@ -130,7 +166,7 @@ mod tests {
         Ok(command_of(heap, words.as_slice()))
     }
 
-    const BAD: [(&str, ArgsError); 11] = [
+    const BAD: [(&str, ArgsError); 13] = [
         ("play", ArgsError::NoFile),
         ("play a --fast", ArgsError::UnknownOption),
         ("play a --stats b", ArgsError::TooManyWords),
@@ -142,6 +178,8 @@ mod tests {
         ("strike", ArgsError::NoFile),
         ("strike a 3", ArgsError::NotOneOrTwo),
         ("strike a 1 1", ArgsError::TooManyWords),
+        ("sums", ArgsError::NoFile),
+        ("sums a b", ArgsError::TooManyWords),
     ];
 
     #[test]
@@ -152,26 +190,42 @@ mod tests {
         Ok(())
     }
 
+    // The command that words give, as text.
+    fn command(rt: &HostRuntime, line: &str) -> Result<String, Fail> {
+        let heap = rt.alloc();
+        let text = match asked(heap, line)? {
+            Ok(Command::Help) => format!(in heap; "help")?,
+            Ok(Command::Play { file, stats }) => format!(in heap; "play {file} {stats}")?,
+            Ok(Command::Random { seed, rivers }) => format!(in heap; "random {seed} {rivers}")?,
+            Ok(Command::Strike { file, strokes }) => format!(in heap; "strike {file} {strokes:?}")?,
+            Ok(Command::Sums { file }) => format!(in heap; "sums {file}")?,
+            Err(error) => format!(in heap; "{error}")?,
+        };
+        Ok(text)
+    }
+
     #[test]
     fn commands(rt: HostRuntime) -> Result<(), Fail> {
-        let heap = rt.alloc();
-        assert!(rt; asked(heap, "--help")? == Ok(Command::Help));
-        assert!(rt;
-            asked(heap, "random 3 40")?
-                == Ok(Command::Random {
-                    seed: 3,
-                    rivers: 40,
-                })
-        );
-        let file = String::from_str(heap, "a")?;
-        assert!(rt; asked(heap, "play a --stats")? == Ok(Command::Play { file, stats: true }));
-        let file = String::from_str(heap, "a")?;
-        let strokes = Strokes::Two;
-        assert!(rt; asked(heap, "strike a 2")? == Ok(Command::Strike { file, strokes }));
-        let file = String::from_str(heap, "-")?;
-        assert!(rt; asked(heap, "")? == Ok(Command::Play { file, stats: false }));
-        let file = String::from_str(heap, "a")?;
-        assert!(rt; asked(heap, "a")? == Ok(Command::Play { file, stats: false }));
+        for (line, wanted) in [
+            ("--help", "help"),
+            ("-h", "help"),
+            ("help", "help"),
+            ("play a", "play a false"),
+            ("play a --stats", "play a true"),
+            ("", "play - false"),
+            ("a", "play a false"),
+            ("random 3 40", "random 3 40"),
+            ("strike a", "strike a One"),
+            ("strike a 1", "strike a One"),
+            ("strike a 2", "strike a Two"),
+            ("sums a", "sums a"),
+            (
+                "random",
+                "the seed is missing; `player --help` says how it is used",
+            ),
+        ] {
+            assert!(rt; command(&rt, line)?.as_str() == wanted);
+        }
         Ok(())
     }
 }

@@ -1,3 +1,5 @@
 mod Huts
 mod Posting
 mod Turning
+pub mod Unrolling
+pub mod Tallying

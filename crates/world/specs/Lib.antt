@@ -1,3 +1,4 @@
 pub mod Tallies
 pub mod Posts
+pub mod Rounds
 pub mod Worlds

@@ -1,15 +1,16 @@
 -- The world that is played, as one of the definitions.
-use Rattle.std.specs.Prelude.{◌≡◌, ℕ, Bool, true, false, [], vec_items}
+use Rattle.std.specs.Prelude.{◌≡◌, ℕ, Bool, true, false, List, [], vec_items}
 use Rattle.sums.specs.Sums.{each, Gauges}
 use Rattle.machine.specs.Run as run
 use Rattle.machine.specs.Entry.{own}
-use Rattle.machine.specs.Run.{faulty, machine_at, one_step, happened, works, poke, brings, falls, calm, goes, poked, delivered, by_each, up_to}
+use Rattle.machine.specs.Run.{machine_at, one_step, happened, all_happened, works, poke, brings, falls, calm}
 use Rattle.rows.specs.Walls.{as_wall}
 use Rattle.river.specs.declared.model.Item.{Item}
 use Rattle.river.specs.declared.model.Item.TheVariants.{Works, Poke, Brings, Falls, Calm}
 use Rattle.world.specs.declared.world.World.{World}
 use Rattle.hut.specs.Played.{as_machine}
 use Rattle.world.specs.Posts.{as_letter}
+use Rattle.world.specs.Tallies.{all_counted}
 
 abbrev pub as_world : World → run.World
 as_world w = record {
@@ -32,9 +33,7 @@ took_place gs w (Brings i j) = happened own gs w (brings i j)
 took_place gs w (Falls i) = happened own gs w (falls i)
 took_place gs w (Calm k n) = calm k n own gs w
 
--- the two halves of a calm round
-abbrev pub all_poked : ℕ → Gauges → run.World → run.World
-all_poked n gs w = by_each (λ u i. goes n own gs (poked u i) i) w (up_to 8)
-
-abbrev pub all_brought : ℕ → Gauges → run.World → ℕ → run.World
-all_brought n gs w j = by_each (λ t i. goes n own gs (delivered t i j) j) w (up_to 8)
+-- from a world and its counts to another by these things that happen
+pub record Passed (gs : Gauges) (w : run.World) (cs : List ℕ) (its : List run.Item) (w₁ : run.World) (cs₁ : List ℕ) : Type 0 where
+  pub world : w₁ ≡ all_happened own gs w its
+  pub counts : cs₁ ≡ all_counted gs w its cs

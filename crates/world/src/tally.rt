@@ -1,6 +1,6 @@
 // How many acts of each kind were done.
-ghost use Rattle.std.specs.Prelude.{◌≡◌, ◌<◌, Some, slice_index, slice_set};
-ghost use Rattle.world.specs.Tallies.{place_of, kind_of, name_of, one_more, total_of};
+ghost use Rattle.std.specs.Prelude.{◌≡◌, ◌<◌, Some, slice_index};
+ghost use Rattle.world.specs.Tallies.{place_of, kind_of, name_of, none_counted, counted, total_of};
 
 use hut::Effect;
 use std::fmt;
@@ -87,7 +87,7 @@ pub struct Tally {
 
 impl Tally {
     pub fn new() -> Tally
-        ensures { total_of result.counts ≡ 0 }
+        ensures { result.counts ≡ none_counted }
     {
         Tally { counts: [0; KINDS] }
     }
@@ -101,7 +101,7 @@ impl Tally {
 
     // One more of this kind; a count that is full stays full.
     pub(crate) fn count(&mut self, kind: Kind)
-        ensures { self.new.counts ≡ slice_set self.old.counts (place_of kind) (one_more (slice_index self.old.counts (place_of kind))) }
+        ensures { self.new.counts ≡ counted self.old.counts kind }
     {
         let place = kind.place();
         self.counts[place] = self.counts[place].saturating_add(1);

@@ -1,9 +1,11 @@
 // What happens to the world: machines work, letters come, lightning strikes, calm.
-ghost use Rattle.std.specs.Prelude.{◌≡◌, IfOk, OnOk};
+ghost use Rattle.std.specs.Prelude.{◌≡◌, false, IfOk, OnOk};
 ghost use Rattle.machine.specs.Entry.{own};
-ghost use Rattle.machine.specs.Run.{nth_row, delivered, fallen, goes, round, calm, new_world};
+ghost use Rattle.machine.specs.Run.{machine_at, nth_row, delivered, fallen, goes, new_world};
 ghost use Rattle.sums.specs.Readings.{as_row, as_gauges};
-ghost use Rattle.world.specs.Worlds.{as_world, Went, took_place, all_poked, all_brought};
+ghost use Rattle.world.specs.Rounds.{pokes, letters_to, a_round, all_rounds, written_out};
+ghost use Rattle.world.specs.Tallies.{none_counted, next_counted, acts_counted, all_counted};
+ghost use Rattle.world.specs.Worlds.{as_world, Went, took_place, Passed};
 
 use crate::tally::{Kind, Tally};
 use crate::wires::{cut, take_letter};
@@ -28,7 +30,8 @@ fn row_of(gauges: &[Vec<Reading>], i: u64) -> &[Reading]
 impl World {
     // The oldest letter from i to j comes, if j rests.
     fn deliver(&mut self, i: u64, j: u64)
-        ensures { as_world self.new ≡ delivered (as_world self.old) i j }
+        ensures world { as_world self.new ≡ delivered (as_world self.old) i j }
+        ensures counts { self.new.tally.counts ≡ self.old.tally.counts }
     {
         let Some(hut) = self.huts.get_mut(j as usize) else {
             let _lost = take_letter(&mut self.wires, i, j);
@@ -44,7 +47,8 @@ impl World {
 
     // Machine i is struck: what is in memory and on its wires is gone.
     fn fall(&mut self, i: u64)
-        ensures { as_world self.new ≡ fallen own (as_world self.old) i }
+        ensures world { as_world self.new ≡ fallen own (as_world self.old) i }
+        ensures counts { self.new.tally.counts ≡ self.old.tally.counts }
     {
         cut(&mut self.wires, i);
         if let Some(hut) = self.huts.get_mut(i as usize) {
@@ -54,7 +58,8 @@ impl World {
 
     // Room for a row and a letter.
     fn make_room(&mut self) -> Result<(), AllocError>
-        ensures { as_world self.new ≡ as_world self.old }
+        ensures world { as_world self.new ≡ as_world self.old }
+        ensures counts { self.new.tally.counts ≡ self.old.tally.counts }
     {
         self.told.reserve(1)?;
         self.wires.reserve(1)
@@ -62,14 +67,16 @@ impl World {
 
     // One step of machine i and its act; false where it rests. Where there is no room for what comes of it, the machine has not moved.
     fn step(&mut self, heap: Global, gauges: &[Vec<Reading>], i: u64) -> Result<bool, AllocError>
-        ensures { IfOk result (λ go. Went (as_gauges gauges.now) (as_world self.old) i go (as_world self.new)) }
+        ensures world { IfOk result (λ go. Went (as_gauges gauges.now) (as_world self.old) i go (as_world self.new)) }
+        ensures counts { OnOk result (self.old.fault ≡ false → self.new.tally.counts ≡ next_counted (as_gauges gauges.now) (as_world self.old) i (machine_at (as_world self.old).machines i).pending self.old.tally.counts) }
     {
         self.make_room()?;
         self.turn(heap, gauges, i)
     }
 
     fn turn(&mut self, heap: Global, gauges: &[Vec<Reading>], i: u64) -> Result<bool, AllocError>
-        ensures { IfOk result (λ go. Went (as_gauges gauges.now) (as_world self.old) i go (as_world self.new)) }
+        ensures world { IfOk result (λ go. Went (as_gauges gauges.now) (as_world self.old) i go (as_world self.new)) }
+        ensures counts { OnOk result (self.old.fault ≡ false → self.new.tally.counts ≡ next_counted (as_gauges gauges.now) (as_world self.old) i (machine_at (as_world self.old).machines i).pending self.old.tally.counts) }
     {
         let Some(hut) = self.huts.get_mut(i as usize) else {
             return Ok(false);
@@ -92,7 +99,8 @@ impl World {
         i: u64,
         acts: u64,
     ) -> Result<(), AllocError>
-        ensures { OnOk result (as_world self.new ≡ goes acts own (as_gauges gauges.now) (as_world self.old) i) }
+        ensures world { OnOk result (as_world self.new ≡ goes acts own (as_gauges gauges.now) (as_world self.old) i) }
+        ensures counts { OnOk result (self.new.tally.counts ≡ acts_counted acts (as_gauges gauges.now) (as_world self.old) i self.old.tally.counts) }
     {
         for _ in 0..acts {
             if self.fault {
@@ -106,14 +114,13 @@ impl World {
     }
 
     // Each machine is poked and works. `bring_all` is another function: each half of a round has its definition, and a closure a clause as long as this loop.
-    #[tactic(auto, using(crate::proofs::Turning::by_each_more), unfolding(machine::specs::Run::by_each, machine::specs::Run::up_to))]
     fn poke_all(
         &mut self,
         heap: Global,
         gauges: &[Vec<Reading>],
         acts: u64,
     ) -> Result<(), AllocError>
-        ensures { OnOk result (as_world self.new ≡ all_poked acts (as_gauges gauges.now) (as_world self.old)) }
+        ensures { OnOk result (Passed (as_gauges gauges.now) (as_world self.old) self.old.tally.counts (pokes acts) (as_world self.new) self.new.tally.counts) }
     {
         for i in 0..MACHINES {
             self.poke(i);
@@ -123,7 +130,6 @@ impl World {
     }
 
     // One letter from each machine comes to j, and j works each time.
-    #[tactic(auto, using(crate::proofs::Turning::by_each_more), unfolding(machine::specs::Run::by_each, machine::specs::Run::up_to))]
     fn bring_all(
         &mut self,
         heap: Global,
@@ -131,7 +137,7 @@ impl World {
         j: u64,
         acts: u64,
     ) -> Result<(), AllocError>
-        ensures { OnOk result (as_world self.new ≡ all_brought acts (as_gauges gauges.now) (as_world self.old) j) }
+        ensures { OnOk result (Passed (as_gauges gauges.now) (as_world self.old) self.old.tally.counts (letters_to acts j) (as_world self.new) self.new.tally.counts) }
     {
         for i in 0..MACHINES {
             self.deliver(i, j);
@@ -141,7 +147,7 @@ impl World {
     }
 
     fn round(&mut self, heap: Global, gauges: &[Vec<Reading>], acts: u64) -> Result<(), AllocError>
-        ensures { OnOk result (as_world self.new ≡ round acts own (as_gauges gauges.now) (as_world self.old)) }
+        ensures { OnOk result (Passed (as_gauges gauges.now) (as_world self.old) self.old.tally.counts (a_round acts) (as_world self.new) self.new.tally.counts) }
     {
         self.poke_all(heap, gauges, acts)?;
         for j in 0..MACHINES {
@@ -158,7 +164,7 @@ impl World {
         rounds: u64,
         acts: u64,
     ) -> Result<(), AllocError>
-        ensures { OnOk result (as_world self.new ≡ calm rounds acts own (as_gauges gauges.now) (as_world self.old)) }
+        ensures { OnOk result (Passed (as_gauges gauges.now) (as_world self.old) self.old.tally.counts (all_rounds rounds acts) (as_world self.new) self.new.tally.counts) }
     {
         for _ in 0..rounds {
             self.round(heap, gauges, acts)?;
@@ -167,14 +173,15 @@ impl World {
     }
 
     // One thing that happens.
-    #[tactic(auto, unfolding(machine::specs::Run::happened))]
+    #[tactic(auto, using(crate::proofs::Unrolling::calm_goes), unfolding(machine::specs::Run::happened, crate::specs::Tallies::all_counted))]
     pub fn happen(
         &mut self,
         heap: Global,
         gauges: &[Vec<Reading>],
         item: Item,
     ) -> Result<(), AllocError>
-        ensures { OnOk result (as_world self.new ≡ took_place (as_gauges gauges.now) (as_world self.old) item) }
+        ensures world { OnOk result (as_world self.new ≡ took_place (as_gauges gauges.now) (as_world self.old) item) }
+        ensures counts { OnOk result (self.new.tally.counts ≡ all_counted (as_gauges gauges.now) (as_world self.old) (written_out item) self.old.tally.counts) }
     {
         match item {
             Item::Works(i, acts) => self.work(heap, gauges, i, acts)?,
@@ -188,7 +195,8 @@ impl World {
 
     // All machines wake; nothing is on the wires or on the wall.
     pub fn new(heap: Global) -> Result<World, AllocError>
-        ensures { IfOk result (λ w. as_world w ≡ new_world own) }
+        ensures world { IfOk result (λ w. as_world w ≡ new_world own) }
+        ensures counts { IfOk result (λ w. w.tally.counts ≡ none_counted) }
     {
         let mut huts = Vec::new(heap);
         for i in 0..MACHINES {

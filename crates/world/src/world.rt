@@ -26,7 +26,8 @@ pub struct World {
 impl World {
     // Machine i is told to go on, if it rests.
     pub(crate) fn poke(&mut self, i: u64)
-        ensures { as_world self.new ≡ poked (as_world self.old) i }
+        ensures world { as_world self.new ≡ poked (as_world self.old) i }
+        ensures counts { self.new.tally.counts ≡ self.old.tally.counts }
     {
         let Some(hut) = self.huts.get_mut(i as usize) else {
             return;
@@ -38,7 +39,8 @@ impl World {
 
     // What is seen of an act of machine i: a row goes on the wall, a letter on the wires.
     pub(crate) fn post(&mut self, i: u64, effect: Effect) -> Result<(), AllocError>
-        ensures { OnOk result (as_world self.new ≡ posted (as_world self.old) i effect) }
+        ensures world { OnOk result (as_world self.new ≡ posted (as_world self.old) i effect) }
+        ensures counts { self.new.tally.counts ≡ self.old.tally.counts }
     {
         match effect {
             Effect::Told(row) => self.told.push(row)?,

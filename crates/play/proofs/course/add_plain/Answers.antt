@@ -1,5 +1,5 @@
 use Rattle.std.proofs.Common.{vec_items, sym, subst}
-use Rattle.play.specs.Plays.{written_out}
+use Rattle.world.specs.Rounds.{written_out}
 use Rattle.play.specs.Courses.{Grown}
 use Rattle.play.proofs.Growing.{grown_one}
 use Rattle.play.proofs.Striking.{plain_unless}

@@ -1,9 +1,10 @@
 use Rattle.std.proofs.Common.{[], ◌∷◌, vec_items, sym, refl, subst}
 use Rattle.machine.specs.Run.{poke, works, up_to}
 use Rattle.river.specs.declared.model.Item.TheVariants.{Poke, Works}
-use Rattle.play.specs.Plays.{in_turn}
+use Rattle.world.specs.Rounds.{in_turn}
 use Rattle.play.specs.Courses.{Grown}
-use Rattle.play.proofs.Growing.{grown_none, grown_two, grown_both, in_turn_more}
+use Rattle.world.proofs.Unrolling.{in_turn_more}
+use Rattle.play.proofs.Growing.{grown_none, grown_two, grown_both}
 use Rattle.play.proofs.course.add_pokes.Goals as goal
 
 pub loop-i-init : goal.loop-i-init

@@ -1,6 +1,6 @@
 use Rattle.std.proofs.Common.{[], ◌∷◌, vec_items}
 use Rattle.machine.specs.Run.{poke, works, up_to}
-use Rattle.play.specs.Plays.{in_turn}
+use Rattle.world.specs.Rounds.{in_turn}
 use Rattle.play.specs.Courses.{Grown}
 use Rattle.play.proofs.course.add_pokes.Given as goal
 

@@ -1,8 +1,9 @@
 use Rattle.std.proofs.Common.{◌≡◌, vec_items, sym, subst, arith}
 use Rattle.machine.specs.Run.{up_to}
-use Rattle.play.specs.Plays.{in_turn, pokes, letters_to}
+use Rattle.world.specs.Rounds.{in_turn, pokes, letters_to}
 use Rattle.play.specs.Courses.{Grown}
-use Rattle.play.proofs.Growing.{grown_none, grown_both, in_turn_more}
+use Rattle.world.proofs.Unrolling.{in_turn_more}
+use Rattle.play.proofs.Growing.{grown_none, grown_both}
 use Rattle.play.proofs.course.add_round.Goals as goal
 
 pub loop-j-init : goal.loop-j-init

@@ -1,6 +1,6 @@
 use Rattle.std.proofs.Common.{vec_items}
 use Rattle.machine.specs.Run.{up_to}
-use Rattle.play.specs.Plays.{in_turn, letters_to}
+use Rattle.world.specs.Rounds.{in_turn, letters_to}
 use Rattle.play.specs.Courses.{Grown}
 use Rattle.play.proofs.course.add_round.Given as goal
 

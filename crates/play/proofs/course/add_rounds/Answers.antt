@@ -1,7 +1,8 @@
 use Rattle.std.proofs.Common.{vec_items, sym, subst}
-use Rattle.play.specs.Plays.{a_round, all_rounds}
+use Rattle.world.specs.Rounds.{a_round, all_rounds}
 use Rattle.play.specs.Courses.{Grown}
-use Rattle.play.proofs.Growing.{grown_none, grown_both, rounds_more}
+use Rattle.world.proofs.Unrolling.{rounds_more}
+use Rattle.play.proofs.Growing.{grown_none, grown_both}
 use Rattle.play.proofs.course.add_rounds.Goals as goal
 
 pub loop-init : goal.loop-init

@@ -1,5 +1,5 @@
 use Rattle.std.proofs.Common.{vec_items}
-use Rattle.play.specs.Plays.{all_rounds}
+use Rattle.world.specs.Rounds.{all_rounds}
 use Rattle.play.specs.Courses.{Grown}
 use Rattle.play.proofs.course.add_rounds.Given as goal
 

@@ -2,7 +2,8 @@ use Rattle.std.proofs.Common.{[], get_or, take, vec_items, sym, refl, ap, ◌∙
 use Rattle.std.proofs.lemmas.List.{take_all, take_more}
 use Rattle.sums.specs.Sums.{every}
 use Rattle.river.specs.declared.model.Item.TheVariants.{Works}
-use Rattle.play.specs.Plays.{written_out, unrolled}
+use Rattle.world.specs.Rounds.{written_out}
+use Rattle.play.specs.Plays.{unrolled}
 use Rattle.play.specs.Courses.{Grown}
 use Rattle.play.proofs.Unrolling.{unrolled_one}
 use Rattle.play.proofs.Growing.{grown_none, grown_both}

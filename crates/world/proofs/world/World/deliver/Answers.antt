@@ -10,15 +10,15 @@ use Rattle.world.proofs.Posting.{none_rest}
 use Rattle.world.proofs.Turning.{delivered_busy, delivered_none, delivered_some, delivered_past}
 use Rattle.world.proofs.world.World.deliver.Goals as goal
 
-pub returns-in_default : goal.returns-in_default
-returns-in_default c =
+pub returns-in_default-clause-world : goal.returns-in_default-clause-world
+returns-in_default-clause-world c =
     let w = c.args.self.now in
     let le : length (vec_items w.huts) ≤ c.args.j = none_lent _ _ c.in_default.ensures.item in
     ap (λ ls. record { machines = (as_world w).machines; wires = ls; told = (as_world w).told; fault = w.fault }) c.take_letter-lost.ensures.rest
     ∙ sym (delivered_past (vec_items w.huts) (as_world w) c.args.i c.args.j le)
 
-pub returns-then-not-rests : goal.returns-then-not-rests
-returns-then-not-rests c =
+pub returns-then-not-rests-clause-world : goal.returns-then-not-rests-clause-world
+returns-then-not-rests-clause-world c =
     let w = c.args.self.now in
     let hs = vec_items w.huts in
     let h = c.in-Some.hut.now in
@@ -26,9 +26,9 @@ returns-then-not-rests c =
     hut_back hs (as_world w) c.args.j h _ seen refl
     ∙ sym (delivered_busy (as_world w) c.args.i c.args.j (as_machine h) seen (sym c.rests.ensures ∙ c.if-not-rests.true))
 
-pub returns-in-Some-take_letter : goal.returns-in-Some-take_letter
+pub returns-in-Some-take_letter-clause-world : goal.returns-in-Some-take_letter-clause-world
 unfolding each
-returns-in-Some-take_letter c =
+returns-in-Some-take_letter-clause-world c =
     let w = c.args.self.now in
     let hs = vec_items w.huts in
     let j = c.args.j in
@@ -38,9 +38,9 @@ returns-in-Some-take_letter c =
     (each_set_nth as_machine hs j c.hear.new.self ∙ ap (set_nth (as_world w).machines j) c.hear.ensures) c.in-Some-take_letter.ensures.rest
     ∙ sym (delivered_some (as_world w) c.args.i j (as_machine h) seen (sym c.rests.ensures ∙ c.if-not-rests.false) (as_letter c.in-Some-take_letter.letter) [] c.in-Some-take_letter.ensures.first)
 
-pub returns-in_default-take_letter : goal.returns-in_default-take_letter
+pub returns-in_default-take_letter-clause-world : goal.returns-in_default-take_letter-clause-world
 unfolding each
-returns-in_default-take_letter c =
+returns-in_default-take_letter-clause-world c =
     let w = c.args.self.now in
     let hs = vec_items w.huts in
     let j = c.args.j in

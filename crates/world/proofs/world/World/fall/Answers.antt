@@ -9,8 +9,8 @@ use Rattle.hut.proofs.Eaches.{each_set_nth}
 use Rattle.world.proofs.Huts.{lent, none_lent}
 use Rattle.world.proofs.world.World.fall.Goals as goal
 
-pub returns-in-Some : goal.returns-in-Some
-returns-in-Some c =
+pub returns-in-Some-clause-world : goal.returns-in-Some-clause-world
+returns-in-Some-clause-world c =
     let w = c.args.self.now in
     let hs = vec_items w.huts in
     let i = c.args.i in
@@ -21,8 +21,8 @@ returns-in-Some c =
     ∙ ap (λ x. set_nth (as_world w).machines i (machine own.start (wakes i ∷ []) x.gone x.gone x.slots)) (sym seen))
     c.cut.ensures
 
-pub returns-in_default : goal.returns-in_default
-returns-in_default c =
+pub returns-in_default-clause-world : goal.returns-in_default-clause-world
+returns-in_default-clause-world c =
     let w = c.args.self.now in
     let i = c.args.i in
     let x = machine_at (as_world w).machines i in

@@ -18,9 +18,9 @@ loop-i-preserved c =
     ap (each as_machine) c.in_ok-push.ensures.items ∙ each_push as_machine _ _
     ∙ ap₂ (λ ms x. ms ++ x ∷ []) c.loop-i.invariant c.in_ok-new.ensures ∙ ap (numbered own) (sym (add-one c.loop-i.i))
 
-pub returns : goal.returns
+pub returns-clause-world : goal.returns-clause-world
 unfolding each
-returns c =
+returns-clause-world c =
     let eight : c.loop-i.i ≡ 8 = omega arith in
     let woken : each as_machine (vec_items c.loop-i.huts) ≡ numbered own 8 = c.loop-i.invariant ∙ ap (numbered own) eight in
     let quiet : each as_letter (vec_items c.new-3.result) ≡ [] = ap (each as_letter) c.new-3.ensures.items in

@@ -5,14 +5,14 @@ use Rattle.world.specs.Worlds.{as_world}
 use Rattle.world.proofs.Huts.{lent, none_lent, hut_set, hut_back, poked_rest, poked_busy, poked_past}
 use Rattle.world.proofs.world.World.poke.Goals as goal
 
-pub returns-in_default : goal.returns-in_default
-returns-in_default c =
+pub returns-in_default-clause-world : goal.returns-in_default-clause-world
+returns-in_default-clause-world c =
     let w = c.args.self.now in
     let le : length (vec_items w.huts) ≤ c.args.i = none_lent _ _ c.in_default.ensures.item in
     sym (poked_past (vec_items w.huts) (as_world w) c.args.i le)
 
-pub returns-then-rests : goal.returns-then-rests
-returns-then-rests c =
+pub returns-then-rests-clause-world : goal.returns-then-rests-clause-world
+returns-then-rests-clause-world c =
     let w = c.args.self.now in
     let hs = vec_items w.huts in
     let h = c.in-Some.hut.now in
@@ -20,8 +20,8 @@ returns-then-rests c =
     hut_set hs (as_world w) c.args.i c.hear.new.self ∙ ap (with_machine (as_world w) c.args.i) c.hear.ensures
     ∙ sym (poked_rest (as_world w) c.args.i (as_machine h) seen (sym c.rests.ensures ∙ c.if-rests.true))
 
-pub returns-else-rests : goal.returns-else-rests
-returns-else-rests c =
+pub returns-else-rests-clause-world : goal.returns-else-rests-clause-world
+returns-else-rests-clause-world c =
     let w = c.args.self.now in
     let hs = vec_items w.huts in
     let h = c.in-Some.hut.now in

@@ -1,9 +1,9 @@
-use Rattle.std.proofs.Common.{◌≡◌}
+use Rattle.std.proofs.Common.{[], ◌∷◌}
+use Rattle.machine.specs.Run.{up_to, poke, works}
+use Rattle.world.specs.Rounds.{in_turn}
 use Rattle.sums.specs.Readings.{as_gauges}
-use Rattle.machine.specs.Entry.{own}
-use Rattle.machine.specs.Run.{goes, poked, by_each, up_to}
-use Rattle.world.specs.Worlds.{as_world}
+use Rattle.world.specs.Worlds.{as_world, Passed}
 use Rattle.world.proofs.world.World.poke_all.Given as goal
 
 abbrev pub invariant-loop-i : goal.invariant-loop-i
-invariant-loop-i l = as_world l.self ≡ by_each (λ u i. goes l.acts own (as_gauges l.gauges) (poked u i) i) (as_world l.initial.self) (up_to l.i)
+invariant-loop-i l = Passed (as_gauges l.gauges) (as_world l.initial.self) l.initial.self.tally.counts (in_turn (λ i. poke i ∷ works i l.acts ∷ []) (up_to l.i)) (as_world l.self) l.self.tally.counts

@@ -1,17 +1,21 @@
-use Rattle.std.proofs.Common.{◌≤◌, length, vec_items, refl, ap, ◌∙◌}
+use Rattle.std.proofs.Common.{◌≡◌, ◌≤◌, [], length, vec_items, sym, refl, ap, ◌∙◌, ap₂}
+use Rattle.machine.specs.Run.{machine_at}
 use Rattle.sums.specs.Readings.{as_gauges}
 use Rattle.hut.specs.Played.{as_machine}
 use Rattle.hut.specs.Effects.{posted}
+use Rattle.world.specs.Tallies.{counted, next_counted}
 use Rattle.world.specs.Worlds.{as_world}
 use Rattle.world.proofs.Huts.{lent, none_lent, hut_set, hut_back, hut_past}
 use Rattle.world.proofs.Turning.{went}
+use Rattle.world.proofs.Tallying.{turn_counted}
 use Rattle.world.proofs.world.World.turn.Goals as goal
 
 pub returns-in_default : goal.returns-in_default
 returns-in_default c =
     let w = c.args.self.now in
     let le : length (vec_items w.huts) ≤ c.args.i = none_lent _ _ c.in_default.ensures.item in
-    (refl, ap (λ x. x.pending) (hut_past (vec_items w.huts) c.args.i le))
+    let rests : (machine_at (as_world w).machines c.args.i).pending ≡ [] = ap (λ x. x.pending) (hut_past (vec_items w.huts) c.args.i le) in
+    record { world = (refl, rests); counts = λ _. sym (ap (λ es. next_counted (as_gauges c.args.gauges.now) (as_world w) c.args.i es w.tally.counts) rests) }
 
 pub returns-in_default-2 : goal.returns-in_default-2
 returns-in_default-2 c =
@@ -20,7 +24,11 @@ returns-in_default-2 c =
     let h = c.in-Some.hut.now in
     let seen = lent hs c.args.i c.in-Some.hut c.in-Some.ensures.item in
     let rested = rw c.in_default-2.is at c.in_ok-effect.ensures in
-    (hut_back hs (as_world w) c.args.i c.take_turn.new.self _ seen rested.0, ap (λ x. x.pending) seen ∙ rested.1)
+    let rests : (machine_at (as_world w).machines c.args.i).pending ≡ [] = ap (λ x. x.pending) seen ∙ rested.1 in
+    record {
+      world = (hut_back hs (as_world w) c.args.i c.take_turn.new.self _ seen rested.0, rests);
+      counts = λ _. sym (ap (λ es. next_counted (as_gauges c.args.gauges.now) (as_world w) c.args.i es w.tally.counts) rests);
+    }
 
 pub returns : goal.returns
 returns c =
@@ -29,5 +37,10 @@ returns c =
     let h = c.in-Some.hut.now in
     let seen = lent hs c.args.i c.in-Some.hut c.in-Some.ensures.item in
     let turned = rw (c.in-Some-2.is, c.row_of-row.ensures) at c.in_ok-effect.ensures in
-    c.in_ok-post.ensures ∙ ap (λ u. posted u c.args.i c.in-Some-2.effect) (hut_set hs (as_world w) c.args.i c.take_turn.new.self)
-    ∙ went (as_gauges c.args.gauges.now) (as_world w) c.args.i (as_machine h) (as_machine c.take_turn.new.self) _ seen turned
+    let gs = as_gauges c.args.gauges.now in
+    record {
+      world = c.in_ok-post.ensures.world ∙ ap (λ u. posted u c.args.i c.in-Some-2.effect) (hut_set hs (as_world w) c.args.i c.take_turn.new.self)
+          ∙ went gs (as_world w) c.args.i (as_machine h) (as_machine c.take_turn.new.self) _ seen turned;
+      counts = λ calm. c.count.ensures ∙ ap₂ counted c.in_ok-post.ensures.counts c.from-kind.ensures
+          ∙ sym (turn_counted gs (as_world w) c.args.i (as_machine h) (as_machine c.take_turn.new.self) c.in-Some-2.effect w.tally.counts seen calm turned);
+    }

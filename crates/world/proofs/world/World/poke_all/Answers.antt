@@ -1,0 +1,30 @@
+use Rattle.std.proofs.Common.{◌≡◌, [], ◌∷◌, sym, subst, arith}
+use Rattle.sums.specs.Readings.{as_gauges}
+use Rattle.machine.specs.Run.{up_to, poke, works}
+use Rattle.world.specs.Rounds.{in_turn}
+use Rattle.world.specs.Worlds.{as_world, Passed}
+use Rattle.world.proofs.Unrolling.{in_turn_more}
+use Rattle.world.proofs.Tallying.{passed_none, passed_both, passed_poke}
+use Rattle.world.proofs.world.World.poke_all.Goals as goal
+
+pub loop-i-init : goal.loop-i-init
+unfolding in_turn up_to
+loop-i-init c = passed_none (as_gauges c.args.gauges.now) (as_world c.args.self.now) c.args.self.now.tally.counts
+
+pub loop-i-preserved : goal.loop-i-preserved
+loop-i-preserved c =
+    let gs = as_gauges c.args.gauges.now in
+    let n = c.args.acts in
+    let l = c.loop-i in
+    let w = as_world c.args.self.now in
+    let cs = c.args.self.now.tally.counts in
+    let one = passed_poke gs (as_world l.self) (as_world c.poke.new.self) (as_world c.work.new.self) l.self.tally.counts c.poke.new.self.tally.counts c.work.new.self.tally.counts l.i n
+    c.poke.ensures.world c.poke.ensures.counts c.in_ok-work.ensures.world c.in_ok-work.ensures.counts in
+    subst (λ its. Passed gs w cs its (as_world c.work.new.self) c.work.new.self.tally.counts) (sym (in_turn_more (λ i. poke i ∷ works i n ∷ []) l.i))
+    (passed_both gs w (as_world l.self) (as_world c.work.new.self) cs l.self.tally.counts c.work.new.self.tally.counts _ _ l.invariant one)
+
+pub returns : goal.returns
+returns c =
+    let n = c.args.acts in
+    let eight : c.loop-i.i ≡ 8 = omega arith in
+    subst (λ k. Passed (as_gauges c.args.gauges.now) (as_world c.args.self.now) c.args.self.now.tally.counts (in_turn (λ i. poke i ∷ works i n ∷ []) (up_to k)) (as_world c.loop-i.self) c.loop-i.self.tally.counts) eight c.loop-i.invariant
