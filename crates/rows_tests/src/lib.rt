@@ -3,7 +3,7 @@
 
 #[cfg(test)]
 mod tests {
-    use rows::{Row, compare, listed, sums_of};
+    use rows::{Row, WallError, compare, listed, sums_of};
     use std::alloc::{AllocError, Global};
     use std::test::Fail;
     use sums::Reading;
@@ -64,6 +64,17 @@ mod tests {
         };
         assert_eq!(rt; comparison.wrong, 1);
         assert!(rt; comparison.untold.as_slice() == [first].as_slice());
+        Ok(())
+    }
+
+    #[test]
+    fn errors_have_their_text(rt: HostRuntime) -> Result<(), Fail> {
+        for (error, text) in [
+            (WallError::Memory, "there is not enough memory"),
+            (WallError::SumTooLarge, "a sum does not fit in 64 bits"),
+        ] {
+            assert_eq!(rt; format!(in rt.alloc(); "{error}")?.as_str(), text);
+        }
         Ok(())
     }
 }

@@ -1,5 +1,5 @@
 -- Only the first gauge has readings just where no other is named.
-use Rattle.std.proofs.Common.{◌≡◌, ℕ, ◌+◌, Bool, true, false, cond, eqb, List, [], ◌∷◌, length, drop, Some, None, Ok, Err, not, Option, vec_items, vec_len, Result, Vec, sym, refl, ap, ◌∙◌}
+use Rattle.std.proofs.Common.{◌≡◌, ℕ, zero, suc, ◌+◌, ◌<◌, Bool, true, false, cond, eqb, List, [], ◌∷◌, length, get_or, drop, Some, None, Ok, Err, not, Option, vec_items, vec_len, Result, Vec, sym, refl, ap, ◌∙◌, subst, true≢false, arith}
 use lib.Dec.{eqb-suc-zero}
 use Rattle.std.specs.List.{find, enumerate_from}
 use Rattle.std.specs.Option.{option_map}
@@ -8,7 +8,7 @@ use Rattle.sums.specs.Readings.{as_row, as_gauges}
 use Rattle.sums.specs.declared.reading.Reading.{Reading}
 use Rattle.promise.specs.Promise.{core, others_empty}
 use Rattle.scope.specs.declared.OtherGauge.{OtherGauge}
-use Rattle.scope.specs.Others.{quiet_from, alone}
+use Rattle.scope.specs.Others.{quiet_from, alone, FirstOther}
 
 abbrev pub okay : Result (Unit {0}) OtherGauge → Bool
 okay (Ok u) = true
@@ -24,6 +24,48 @@ pub core_alone : (gs : Gauges) → core gs ≡ okay (alone gs)
 unfolding others_empty quiet_from
 core_alone [] = refl
 core_alone (rs ∷ gs) = quiet_okay 1 gs
+
+-- ---- the gauge that is named
+
+named : Result (Unit {0}) OtherGauge → ℕ
+named (Ok u) = 0
+named (Err e) = e.number
+
+-- it is j behind gauge n, has readings, and those between have none
+abbrev FirstFrom : (n : ℕ) (gs : Gauges) (number : ℕ) → Type 0
+FirstFrom n gs k = (j : ℕ) × (k ≡ n + j) × (none_of (get_or gs j []) ≡ false) × ((m : ℕ) → m < j → none_of (get_or gs m []) ≡ true)
+
+first_from : (n : ℕ) (gs : Gauges) (e : OtherGauge) → quiet_from n gs ≡ Err e → FirstFrom n gs e.number
+unfolding quiet_from none_of named
+first_from n [] e is = absurd (true≢false (ap okay is))
+first_from n ([] ∷ gs) e is = one_more (first_from (n + 1) gs e is)
+  where
+    at : (j : ℕ) → ((m : ℕ) → m < j → none_of (get_or gs m []) ≡ true) → (m : ℕ) → m < suc j → none_of (get_or ([] ∷ gs) m []) ≡ true
+    at j h zero l = refl
+    at j h (suc m) l = h m (omega arith)
+
+    one_more : FirstFrom (n + 1) gs e.number → FirstFrom n ([] ∷ gs) e.number
+    one_more f = (suc f.0, omega (arith, f.1), f.2, at f.0 f.3)
+first_from n ((r ∷ rs) ∷ gs) e is = (0, omega (arith, ap named is), refl, λ m l. absurd (omega arith))
+
+pub first_other : (gs : Gauges) (e : OtherGauge) → alone gs ≡ Err e → FirstOther gs e.number
+unfolding quiet_from
+first_other [] e is = absurd (true≢false (ap okay is))
+first_other (rs ∷ gs) e is = go (first_from 1 gs e is)
+  where
+    at : (j : ℕ) → ((m : ℕ) → m < j → none_of (get_or gs m []) ≡ true) → (m : ℕ) → 0 < m → m < suc j → none_of (get_or (rs ∷ gs) m []) ≡ true
+    at j h zero p l = absurd (omega arith)
+    at j h (suc m) p l = h m (omega arith)
+
+    there : (j : ℕ) → none_of (get_or gs j []) ≡ false → ((m : ℕ) → m < j → none_of (get_or gs m []) ≡ true) → FirstOther (rs ∷ gs) (suc j)
+    there j reads quiet = record { behind = omega arith; reads = reads; quiet = at j quiet }
+
+    go : FirstFrom 1 gs e.number → FirstOther (rs ∷ gs) e.number
+    go f =
+        let is : suc f.0 ≡ e.number = omega (arith, f.1) in
+        subst (FirstOther (rs ∷ gs)) is (there f.0 f.2 f.3)
+
+-- ---- what the code finds
 
 row_none : (rs : List Reading) (n : ℕ) → n ≡ length rs → none_of (as_row rs) ≡ eqb n 0
 unfolding none_of each

@@ -1,10 +1,10 @@
 // Which rivers the machines are right on: for now, those on which only the first gauge has readings.
 #![tactic(auto)]
 
-ghost use Rattle.std.specs.Prelude.{◌≡◌, true, false, OnErr, OnOk};
+ghost use Rattle.std.specs.Prelude.{◌≡◌, true, false, OnErr, OnOk, IfErr};
 ghost use Rattle.sums.specs.Readings.{as_gauges};
 ghost use Rattle.promise.specs.Promise.{core};
-ghost use Rattle.scope.specs.Others.{alone};
+ghost use Rattle.scope.specs.Others.{alone, FirstOther};
 
 use sums::Reading;
 use thiserror::Error;
@@ -19,6 +19,7 @@ pub struct OtherGauge {
 // Refuses rows of gauges of which one behind the first has readings, and names the first such.
 pub fn first_alone(gauges: &[Vec<Reading>]) -> Result<(), OtherGauge>
     ensures told { result ≡ alone (as_gauges gauges.now) }
+    ensures first { IfErr result (λ e. FirstOther (as_gauges gauges.now) e.number) }
     ensures core { OnOk result (core (as_gauges gauges.now) ≡ true) }
     ensures other { OnErr result (core (as_gauges gauges.now) ≡ false) }
 {

@@ -5,7 +5,7 @@ use Rattle.std.proofs.lemmas.Iterator.Consumers.{YieldsList-from_enumerate}
 use Rattle.std.proofs.lemmas.Iterator.Search.{find_from_yields_List}
 use Rattle.sums.specs.Readings.{as_gauges}
 use Rattle.scope.specs.Others.{alone}
-use Rattle.scope.proofs.Quiet.{okay, core_alone, said, speaks, said_map, found_alone}
+use Rattle.scope.proofs.Quiet.{okay, core_alone, first_other, said, speaks, said_map, found_alone}
 use Rattle.scope.proofs.first_alone.Goals as goal
 use Rattle.scope.proofs.first_alone.Goals.{After-find}
 
@@ -21,6 +21,9 @@ returns-in-Some-clause-told c = sym (found (goal.at.returns-in-Some-clause-told 
 
 pub returns-in-Some-clause-other : goal.returns-in-Some-clause-other
 returns-in-Some-clause-other c = core_alone (as_gauges c.args.gauges.now) ∙ ap okay (found (goal.at.returns-in-Some-clause-other c).After-find ∙ ap said c.in-Some.is)
+
+pub returns-in-Some-clause-first : goal.returns-in-Some-clause-first
+returns-in-Some-clause-first c = first_other (as_gauges c.args.gauges.now) _ (found (goal.at.returns-in-Some-clause-first c).After-find ∙ ap said c.in-Some.is)
 
 pub returns-in-None-clause-told : goal.returns-in-None-clause-told
 returns-in-None-clause-told c = sym (found (goal.at.returns-in-None-clause-told c).After-find ∙ ap said c.in-None.is)

@@ -40,4 +40,4 @@ pub returns : goal.returns
 returns c =
     let so = c.loop-index.invariant in
     all_read c.args.text.now (enumerate_count c.loop-index.index-iterator) c.loop-index.sums so.1 (so.0 ∙ c.in-None.ensures.steps.0.0)
-    (as_wall (vec_items c.in_ok-listed.field-0)) c.in_ok-listed.ensures
+    (as_wall (vec_items c.in_ok-listed.field-0)) c.in_ok-listed.ensures.rows
