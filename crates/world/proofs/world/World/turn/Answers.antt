@@ -19,7 +19,7 @@ returns-in_default-2 c =
     let hs = vec_items w.huts in
     let h = c.in-Some.hut.now in
     let seen = lent hs c.args.i c.in-Some.hut c.in-Some.ensures.item in
-    let rested = rw c.in_default-2.is at c.in_ok-effect.ensures in
+    let rested = rw c.in_default-2.is at c.in_ok-effect.ensures.done in
     (hut_back hs (as_world w) c.args.i c.take_turn.new.self _ seen rested.0, ap (λ x. x.pending) seen ∙ rested.1)
 
 pub returns : goal.returns
@@ -28,6 +28,6 @@ returns c =
     let hs = vec_items w.huts in
     let h = c.in-Some.hut.now in
     let seen = lent hs c.args.i c.in-Some.hut c.in-Some.ensures.item in
-    let turned = rw (c.in-Some-2.is, c.row_of-row.ensures) at c.in_ok-effect.ensures in
+    let turned = rw (c.in-Some-2.is, c.row_of-row.ensures) at c.in_ok-effect.ensures.done in
     c.in_ok-post.ensures ∙ ap (λ u. posted u c.args.i c.in-Some-2.effect) (hut_set hs (as_world w) c.args.i c.take_turn.new.self)
     ∙ went (as_gauges c.args.gauges.now) (as_world w) c.args.i (as_machine h) (as_machine c.take_turn.new.self) _ seen turned
