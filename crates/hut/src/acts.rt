@@ -1,5 +1,5 @@
 // What a machine does in its hut, act by act. A desk holds what its step left: memory and bytes.
-ghost use Rattle.std.specs.Prelude.{◌≡◌, ℕ, List, [], ◌∷◌, IfOk};
+ghost use Rattle.std.specs.Prelude.{◌≡◌, ℕ, List, [], ◌∷◌, IfOk, OnErr};
 ghost use Rattle.machine.specs.Entry.{own};
 ghost use Rattle.machine.specs.Run.{machine, wakes, set_nth, more, from, let_go, sends, keep, recall, tells, rests};
 ghost use Rattle.sums.specs.Sums as given;
@@ -127,14 +127,15 @@ impl Hut {
         Effect::Kept(drawer)
     }
 
-    // What a drawer has is told, if there is such a drawer.
+    // What a drawer has is told, if there is such a drawer. Where there is no room for its text, nothing is done.
     pub fn recall(
         &mut self,
         heap: Global,
         desk: &mut Desk,
         drawer: u64,
     ) -> Result<Effect, AllocError>
-        ensures { IfOk result (λ f. (rs : List given.Reading) (i : ℕ) → Did rs i (as_machine self.old) desk.old.memory.items (recall drawer) (as_machine self.new) f) }
+        ensures done { IfOk result (λ f. (rs : List given.Reading) (i : ℕ) → Did rs i (as_machine self.old) desk.old.memory.items (recall drawer) (as_machine self.new) f) }
+        ensures unmoved { OnErr result (as_machine self.new ≡ as_machine self.old) }
     {
         if drawer >= DRAWERS {
             return Ok(Effect::Fault);

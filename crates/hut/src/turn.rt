@@ -1,5 +1,5 @@
 // One step of a machine and its act, with what is seen of it outside.
-ghost use Rattle.std.specs.Prelude.{IfOk};
+ghost use Rattle.std.specs.Prelude.{◌≡◌, IfOk, OnErr};
 ghost use Rattle.machine.specs.Answers.{act_back};
 ghost use Rattle.sums.specs.Readings.{as_row};
 ghost use Rattle.hut.specs.Played.{as_machine};
@@ -22,7 +22,8 @@ impl Hut {
         i: u64,
         act: Act,
     ) -> Result<Effect, AllocError>
-        ensures { IfOk result (λ f. Did (as_row row.now) i (as_machine self.old) desk.old.memory.items (act_back act desk.old.out.items) (as_machine self.new) f) }
+        ensures done { IfOk result (λ f. Did (as_row row.now) i (as_machine self.old) desk.old.memory.items (act_back act desk.old.out.items) (as_machine self.new) f) }
+        ensures unmoved { OnErr result (as_machine self.new ≡ as_machine self.old) }
     {
         match act {
             Act::More => Ok(self.more(desk, row)),
@@ -42,7 +43,7 @@ impl Hut {
         }
     }
 
-    // Machine i takes one step, and its act is done; none where it rests.
+    // Machine i takes one step, and its act is done; none where it rests. Where there is no room for a text, it has not moved.
     pub fn take_turn(
         &mut self,
         heap: Global,
@@ -50,7 +51,8 @@ impl Hut {
         row: &[Reading],
         i: u64,
     ) -> Result<Option<Effect>, AllocError>
-        ensures { IfOk result (λ f. Turned (as_row row.now) i (as_machine self.old) (as_machine self.new) f) }
+        ensures done { IfOk result (λ f. Turned (as_row row.now) i (as_machine self.old) (as_machine self.new) f) }
+        ensures unmoved { OnErr result (as_machine self.new ≡ as_machine self.old) }
     {
         let Some(act) = self.step(desk) else {
             return Ok(None);

@@ -23,7 +23,7 @@ returns-in_default-2 c =
     let hs = vec_items w.huts in
     let h = c.in-Some.hut.now in
     let seen = lent hs c.args.i c.in-Some.hut c.in-Some.ensures.item in
-    let rested = rw c.in_default-2.is at c.in_ok-effect.ensures in
+    let rested = rw c.in_default-2.is at c.in_ok-effect.ensures.done in
     let rests : (machine_at (as_world w).machines c.args.i).pending ≡ [] = ap (λ x. x.pending) seen ∙ rested.1 in
     record {
       world = (hut_back hs (as_world w) c.args.i c.take_turn.new.self _ seen rested.0, rests);
@@ -36,7 +36,7 @@ returns c =
     let hs = vec_items w.huts in
     let h = c.in-Some.hut.now in
     let seen = lent hs c.args.i c.in-Some.hut c.in-Some.ensures.item in
-    let turned = rw (c.in-Some-2.is, c.row_of-row.ensures) at c.in_ok-effect.ensures in
+    let turned = rw (c.in-Some-2.is, c.row_of-row.ensures) at c.in_ok-effect.ensures.done in
     let gs = as_gauges c.args.gauges.now in
     record {
       world = c.in_ok-post.ensures.world ∙ ap (λ u. posted u c.args.i c.in-Some-2.effect) (hut_set hs (as_world w) c.args.i c.take_turn.new.self)
