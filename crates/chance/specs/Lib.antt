@@ -1,2 +1,1 @@
 pub mod Chances
-pub mod Texts

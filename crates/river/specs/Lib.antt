@@ -5,3 +5,4 @@ pub mod Rivers
 pub mod Mistakes
 pub mod Fine
 pub mod Spelling
+pub mod Back

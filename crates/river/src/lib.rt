@@ -7,7 +7,9 @@ pub mod mistake;
 pub mod model;
 mod parser;
 mod take;
+mod written;
 
 pub use mistake::{Mistake, Reason};
 pub use model::{Item, River};
 pub use parser::{parse, parse_within};
+pub use written::{lines_back, rivers_back};

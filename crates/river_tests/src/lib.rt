@@ -73,7 +73,7 @@ mod tests {
     fn a_river_is_read(rt: HostRuntime) -> Result<(), Fail> {
         let heap = rt.alloc();
         let text =
-            "# spring\r\ngauge 7 # the last\n 100 1023 4294967295\n\t100 0 7\r\nhappens\nworks 0 4294967296\npoke 7\ngauge 0\ngauge 1\n0 0 0";
+            "# spring\r\ngauge 7 # the last\n 100 1023 4294967295\n\t100 0 7\r\nhappens\nworks 0 4294967296\npoke 7\nbrings 2 5\nfalls 3\ncalm 9 10\ngauge 0\ngauge 1\n0 0 0";
         let river = parse(heap, text)?;
         assert!(rt; river.gauges.len() == 8);
         assert!(rt; river.gauges[7].len() == 2);
@@ -83,9 +83,14 @@ mod tests {
         assert_eq!(rt; last.value, 7);
         assert_eq!(rt; river.gauges[0].len(), 0);
         assert_eq!(rt; river.gauges[1].len(), 1);
-        assert!(rt; river.items.len() == 2);
-        assert_eq!(rt; river.items[0], Item::Works(0, 4294967296));
-        assert_eq!(rt; river.items[1], Item::Poke(7));
+        let wanted = [
+            Item::Works(0, 4294967296),
+            Item::Poke(7),
+            Item::Brings(2, 5),
+            Item::Falls(3),
+            Item::Calm(9, 10),
+        ];
+        assert!(rt; river.items.as_slice() == wanted.as_slice());
         Ok(())
     }
 }

@@ -1,27 +1,15 @@
 -- Bytes as digits, two at a time. Assumes nothing.
-use Rattle.std.proofs.Common.{◌≡◌, ℕ, suc, ◌+◌, ◌/◌, ◌%◌, ◌<◌, ◌≤◌, false, [], ◌∷◌, ◌++◌, length, get_or, drop, Some, Ok, Err, Result, sym, refl, ap, ap₂, subst, ◌∙◌, arith}
+use Rattle.std.proofs.Common.{◌≡◌, ℕ, suc, ◌+◌, ◌/◌, ◌%◌, ◌<◌, ◌≤◌, false, [], ◌∷◌, ◌++◌, length, get_or, drop, Some, Ok, Err, Result, refl, ap, ap₂, subst, ◌∙◌, arith}
 use Rattle.std.specs.Fmt.{AppendsText, digits, digits_output, format_spec, padded_integral, radix_prefix, shown_prefix, styled_digits_output}
 use Rattle.std.specs.Option.{option_map}
 use Rattle.std.proofs.lemmas.Fmt as fmt
-use Rattle.std.proofs.lemmas.List.{drop_more, drop_all, append_assoc, nil_from_length}
+use Rattle.std.proofs.lemmas.List.{drop_more, drop_all, nil_from_length}
 use Rattle.std.proofs.lemmas.Grind.{common_steps}
 use Rattle.text.specs.declared.base16.HexError.{HexError}
 use Rattle.text.specs.declared.base16.HexError.TheVariants.{OddLength}
 use Rattle.text.specs.Text.{Bytes}
+use Rattle.text.proofs.Behind.{behind, behind_more}
 use Rattle.text.specs.Hex.{hex_digit, hex_value, hex_byte, hex, led, joined, unhex}
-
--- bytes in front of those that are read
-abbrev pub behind : Bytes → Result Bytes HexError → Result Bytes HexError
-behind bs (Ok cs) = Ok (bs ++ cs)
-behind bs (Err e) = Err e
-
-pub behind_none : (r : Result Bytes HexError) → behind [] r ≡ r
-behind_none (Ok cs) = refl
-behind_none (Err e) = refl
-
-pub behind_more : (bs : Bytes) (b : ℕ) (r : Result Bytes HexError) → behind bs (led (Some b) r) ≡ behind (bs ++ b ∷ []) r
-behind_more bs b (Ok cs) = ap Ok (sym (append_assoc bs (b ∷ []) cs))
-behind_more bs b (Err e) = refl
 
 -- a digit is read as the value that it writes
 digit_read : (n : ℕ) → n < 16 → hex_value (hex_digit n) ≡ Some n
@@ -52,6 +40,9 @@ unfolding unhex
 unhex_more [] h = absurd (omega arith)
 unhex_more (c ∷ []) h = absurd (omega arith)
 unhex_more (c ∷ d ∷ cs) h = refl
+
+pub led_more : (bs : Bytes) (b : ℕ) (r : Result Bytes HexError) → behind bs (led (Some b) r) ≡ behind (bs ++ b ∷ []) r
+led_more bs b = behind_more (led (Some b)) b (λ cs. refl) (λ e. refl) bs
 
 pub unhex_odd : (bs : Bytes) → 0 < length bs → length bs < 2 → unhex bs ≡ Err OddLength
 unfolding unhex

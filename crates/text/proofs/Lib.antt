@@ -1,4 +1,5 @@
 pub mod Cuts
 pub mod Numbers
+pub mod Behind
 pub mod Hexes
 pub mod Written

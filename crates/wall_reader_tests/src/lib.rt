@@ -154,6 +154,12 @@ mod tests {
             },
         ];
         assert!(rt; marks.as_slice() == drawn.as_slice());
+        Ok(())
+    }
+
+    #[test]
+    fn other_charts_are_refused(rt: HostRuntime) -> Result<(), Fail> {
+        let heap = rt.alloc();
         let all = rows_of(heap, &Filter::ALL)?;
         let Err(mistake) = chart(heap, all.as_slice()) else {
             return Err(Fail::new("a chart of three places"));

@@ -1,6 +1,6 @@
 use Rattle.std.proofs.Common.{◌≡◌, length, vec_items}
 use Rattle.text.specs.Hex.{unhex}
-use Rattle.text.proofs.Hexes.{behind}
+use Rattle.text.proofs.Behind.{behind}
 use Rattle.text.proofs.base16.unhex.Given as goal
 
 abbrev pub invariant-loop-rest : goal.invariant-loop-rest
