@@ -88,4 +88,12 @@ mod tests {
         assert_eq!(rt; river.items[1], Item::Poke(7));
         Ok(())
     }
+
+    #[test]
+    fn an_empty_text_is_a_river(rt: HostRuntime) -> Result<(), Fail> {
+        let river = parse(rt.alloc(), "")?;
+        assert_eq!(rt; river.gauges.len(), 8);
+        assert_eq!(rt; river.items.len(), 0);
+        Ok(())
+    }
 }
