@@ -33,6 +33,21 @@ mod tests {
         Ok(())
     }
 
+    // FNV-1a of the texts of 20 seeds, as another program makes them: a river's seed gives the same river on any day.
+    #[test]
+    fn a_seed_gives_just_this_text(rt: HostRuntime) -> Result<(), Fail> {
+        let heap = rt.alloc();
+        let mut sum: u64 = 0xcbf2_9ce4_8422_2325;
+        for seed in 1..=20 {
+            let text = chance::random_river(heap, seed)?;
+            for byte in text.as_bytes() {
+                sum = (sum ^ u64::from(*byte)).wrapping_mul(0x100_0000_01b3);
+            }
+        }
+        assert_eq!(rt; sum, 0x081f_588d_a5ca_4ecb);
+        Ok(())
+    }
+
     #[test]
     fn rivers_at_random_are_right(rt: HostRuntime) -> Result<(), Fail> {
         let heap = rt.alloc();

@@ -93,4 +93,12 @@ mod tests {
         assert!(rt; river.items.as_slice() == wanted.as_slice());
         Ok(())
     }
+
+    #[test]
+    fn an_empty_text_is_a_river(rt: HostRuntime) -> Result<(), Fail> {
+        let river = parse(rt.alloc(), "")?;
+        assert_eq!(rt; river.gauges.len(), 8);
+        assert_eq!(rt; river.items.len(), 0);
+        Ok(())
+    }
 }

@@ -1,2 +1,3 @@
 pub mod Text
 pub mod Hex
+pub mod Written

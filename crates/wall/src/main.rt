@@ -8,7 +8,8 @@ use std::process::ExitCode;
 use std::{env, fmt, fs, io};
 use thiserror::Error;
 use wall_reader::{
-    ChartMistake, Complaint, Form, Mark, Misuse, WallMistake, chart, chosen, parse_words,
+    ChartMistake, Complaint, Form, Mark, Misuse, WallMistake, chart, chosen, csv_text, parse_words,
+    rows_text,
 };
 
 const USAGE: &str = "\
@@ -70,11 +71,12 @@ fn run(rt: &HostRuntime) -> Result<(), Failure> {
     };
     let rows = wall_reader::read(heap, text.as_str())?;
     let some = chosen(heap, rows.as_slice(), &request.filter)?;
-    match request.form {
-        Form::Rows => print_rows(rt, some.as_slice()),
-        Form::Csv => print_csv(rt, some.as_slice()),
-        Form::Chart => print_chart(rt, some.as_slice()),
-    }
+    let shown = match request.form {
+        Form::Rows => rows_text(heap, some.as_slice())?,
+        Form::Csv => csv_text(heap, some.as_slice())?,
+        Form::Chart => return print_chart(rt, some.as_slice()),
+    };
+    Ok(print!(rt; "{shown}")?)
 }
 
 // The word with this number, and nothing where there is none.
@@ -92,21 +94,6 @@ fn read_input(rt: &HostRuntime) -> Result<String, Failure> {
         Ok(_) => Ok(text),
         Err(error) => Err(Failure::Input(String::from_str(rt.alloc(), "standard input")?, error)),
     }
-}
-
-fn print_rows(rt: &HostRuntime, rows: &[Row]) -> Result<(), Failure> {
-    for row in rows {
-        println!(rt; "{row}")?;
-    }
-    Ok(())
-}
-
-fn print_csv(rt: &HostRuntime, rows: &[Row]) -> Result<(), Failure> {
-    println!(rt; "hour,place,sum")?;
-    for Row { hour, place, sum } in rows {
-        println!(rt; "{hour},{place},{sum}")?;
-    }
-    Ok(())
 }
 
 // A mark with its hour in so many columns.

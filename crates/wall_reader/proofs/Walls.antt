@@ -7,7 +7,7 @@ use Rattle.sums.specs.Sums.{any, every, each, or, ToldSum}
 use Rattle.sums.proofs.Everys.{or_true}
 use Rattle.rows.specs.declared.Row.{Row}
 use Rattle.rows.specs.Walls.{as_told, as_wall}
-use Rattle.wall_reader.specs.Charts.{of_place}
+use Rattle.wall_reader.specs.Charts.{begins, of_place}
 
 -- what a row past the end is read as
 abbrev pub no_row : Row
@@ -18,11 +18,10 @@ module _ (rows : List Row) (i : ℕ) (d : Row) (h : i < length rows) where
   unfolding each
   wall_drop = ap as_wall (drop_more rows i d h)
 
-pub any_place : (f : ToldSum → Bool) (rows : List Row) (i : ℕ) (d : Row) → i < length rows → f (as_told (get_or rows i d)) ≡ true → any f (as_wall rows) ≡ true
-unfolding any each
-any_place f [] i d h e = absurd (omega arith)
-any_place f (r ∷ rows) zero d h e = ap (λ b. or b (any f (as_wall rows))) e
-any_place f (r ∷ rows) (suc i) d h e = ap (or (f (as_told r))) (any_place f rows i d (omega arith) e) ∙ or_true (f (as_told r))
+pub begins_first : (k : ℕ) (rows : List Row) (d : Row) → 0 < length rows → eqb (get_or rows 0 d).place k ≡ true → begins k (as_wall rows) ≡ true
+unfolding each
+begins_first k [] d h e = absurd (omega arith)
+begins_first k (r ∷ rows) d h e = e
 
 -- the first row that is of another place, if any
 abbrev pub elsewhere : ℕ → Row → Bool

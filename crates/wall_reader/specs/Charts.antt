@@ -17,12 +17,16 @@ greatest_of (t ∷ ts) = max t.sum (greatest_of ts)
 abbrev pub of_place : ℕ → ToldSum → Bool
 of_place k t = t.place == k
 
--- all rows are of this place, or there are none, or there are two places
+abbrev pub begins : ℕ → List ToldSum → Bool
+begins k [] = false
+begins k (t ∷ ts) = of_place k t
+
+-- all rows are of this place, or there are none, or the first is of one place and one of another
 abbrev pub OnePlace : List ToldSum → ℕ → Type 0
 OnePlace ts k = (0 < length ts) × (every (of_place k) ts ≡ true)
 
 abbrev pub TwoPlaces : List ToldSum → (k j : ℕ) → Type 0
-TwoPlaces ts k j = (any (of_place k) ts ≡ true) × (any (of_place j) ts ≡ true) × ((j == k) ≡ false)
+TwoPlaces ts k j = (begins k ts ≡ true) × (any (of_place j) ts ≡ true) × ((j == k) ≡ false)
 
 abbrev pub PlaceSays : List ToldSum → Result ℕ ChartMistake → Type 0
 PlaceSays ts (Ok k) = OnePlace ts k

@@ -3,3 +3,4 @@ pub mod Reads
 pub mod Filters
 pub mod Charts
 pub mod Requests
+pub mod Shown

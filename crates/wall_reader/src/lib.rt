@@ -1,4 +1,4 @@
-// The wall, read back: its rows, which of them are asked for, and a chart of them.
+// The wall, read back: its rows, which of them are asked for, and these as text or as a chart.
 #![tactic(auto)]
 
 mod asked;
@@ -6,6 +6,7 @@ mod bars;
 mod line;
 mod mistake;
 mod reader;
+mod shown;
 mod words;
 
 pub use asked::{Filter, Hours, chosen};
@@ -13,4 +14,5 @@ pub use bars::{ChartMistake, Mark, WIDTH, bar, chart};
 pub use line::{print_and_read, read_row};
 pub use mistake::{Reason, WallMistake};
 pub use reader::read;
+pub use shown::{csv_text, rows_text};
 pub use words::{Complaint, Form, Misuse, Request, parse_words};

@@ -6,7 +6,9 @@ mod tests {
     use rows::Row;
     use std::alloc::{AllocError, Global};
     use std::test::Fail;
-    use wall_reader::{Filter, Form, Hours, Mark, bar, chart, chosen, parse_words, read};
+    use wall_reader::{
+        Filter, Form, Hours, Mark, bar, chart, chosen, csv_text, parse_words, read, rows_text,
+    };
 
     // A text, and what is said of it.
     const BAD: [(&str, &str); 13] = [
@@ -78,22 +80,26 @@ mod tests {
         }
     }
 
-    fn lines(heap: Global, rows: &[Row]) -> Result<String, AllocError> {
-        let mut text = String::new(heap);
-        for row in rows {
-            text.push_str(format!(in heap; "{row}\n")?.as_str())?;
-        }
-        Ok(text)
-    }
-
     #[test]
     fn rows_stand_once_and_in_order(rt: HostRuntime) -> Result<(), Fail> {
         let heap = rt.alloc();
         let all = rows_of(heap, &Filter::ALL)?;
         assert_eq!(rt;
-            lines(heap, all.as_slice())?.as_str(),
+            rows_text(heap, all.as_slice())?.as_str(),
             "hour 3 place 2: 7\nhour 8 place 1: 80\nhour 9 place 0: 26\nhour 9 place 1: 12\nhour 12 place 1: 40\n"
         );
+        Ok(())
+    }
+
+    #[test]
+    fn rows_are_comma_separated(rt: HostRuntime) -> Result<(), Fail> {
+        let heap = rt.alloc();
+        let all = rows_of(heap, &Filter::ALL)?;
+        assert_eq!(rt;
+            csv_text(heap, all.as_slice())?.as_str(),
+            "hour,place,sum\n3,2,7\n8,1,80\n9,0,26\n9,1,12\n12,1,40\n"
+        );
+        assert_eq!(rt; csv_text(heap, &[])?.as_str(), "hour,place,sum\n");
         Ok(())
     }
 
@@ -107,7 +113,7 @@ mod tests {
         };
         let some = rows_of(heap, &filter)?;
         assert_eq!(rt;
-            lines(heap, some.as_slice())?.as_str(),
+            rows_text(heap, some.as_slice())?.as_str(),
             "hour 8 place 1: 80\nhour 9 place 1: 12\n"
         );
         let filter = Filter {
@@ -117,7 +123,7 @@ mod tests {
         };
         let some = rows_of(heap, &filter)?;
         assert_eq!(rt;
-            lines(heap, some.as_slice())?.as_str(),
+            rows_text(heap, some.as_slice())?.as_str(),
             "hour 9 place 0: 26\nhour 9 place 1: 12\n"
         );
         Ok(())

@@ -6,8 +6,7 @@ use Rattle.std.proofs.lemmas.Iterator.{YieldsList-from_slice}
 use Rattle.std.proofs.lemmas.Iterator.Search.{find_from_yields_List}
 use Rattle.sums.proofs.Eaches.{length_each}
 use Rattle.rows.specs.Walls.{as_told}
-use Rattle.wall_reader.specs.Charts.{of_place}
-use Rattle.wall_reader.proofs.Walls.{any_place, elsewhere, none_elsewhere, one_elsewhere}
+use Rattle.wall_reader.proofs.Walls.{begins_first, elsewhere, none_elsewhere, one_elsewhere}
 use Rattle.wall_reader.proofs.bars.one_place.Goals as goal
 use Rattle.wall_reader.proofs.bars.one_place.Goals.{After-find}
 
@@ -23,7 +22,7 @@ returns-in-Some-find c =
     let first = c.in-Some.first.now in
     let item = c.in-Some.ensures.item in
     let other = one_elsewhere first.place rows c.in-Some-find.other.now (sym (found (goal.at.returns-in-Some-find c).After-find) ∙ ap (option_map (λ r. r.now)) c.in-Some-find.is) in
-    (any_place (of_place first.place) rows 0 first (ltb-true 0 _ (sym item.0)) (eq-eqb _ _ (ap (λ r. r.place) (sym item.1))), other.0, other.1)
+    (begins_first first.place rows first (ltb-true 0 _ (sym item.0)) (eq-eqb _ _ (ap (λ r. r.place) (sym item.1))), other.0, other.1)
 
 pub returns-in-None : goal.returns-in-None
 returns-in-None c =
