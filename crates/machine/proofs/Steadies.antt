@@ -100,7 +100,7 @@ module _ (m : List ℕ) where
   -- zeros from a place on, and all zeros
   cleared_kept : Kept m (cleared m)
   unfolding Kept all_small
-  cleared_kept = wrote _ 5 0 (wrote _ 2 0 zeros (λ _. lit< tt)) (λ _. lit< tt)
+  cleared_kept = wrote _ 2 0 zeros (λ _. lit< tt)
     where
       zeros : Kept m (take sums_at m ++ replicate (length m - sums_at) 0)
       zeros = (
@@ -174,7 +174,7 @@ module _ (m : List ℕ) where
       (phase saved _ _ save_next_kept
       (phase rooted _ _ (phase_set placed (lit< tt))
       (phase told _ _ (phase_set noted (lit< tt))
-      (phase noted _ _ tell_next_kept (phase closed _ _ (wrote _ 0 rooted cleared_kept (λ _. lit< tt)) (same m)))))))
+      (phase noted _ _ tell_next_kept (phase closed _ _ (wrote _ 0 rooted (wrote _ 5 0 cleared_kept (λ _. lit< tt)) (λ _. lit< tt)) (same m)))))))
     where
       phase : (p : ℕ) (s t : Done) → Kept m s.memory → Kept m t.memory → Kept m (cond (eqb (phase_in m) p) s t).memory
       phase p s t k l = either m (eqb (phase_in m) p) s t (λ _. k) (λ _. l)
