@@ -19,6 +19,7 @@ use Rattle.store.specs.declared.records.PageSet.{PageSet}
 use Rattle.store.specs.declared.records.PageSet.TheVariants.{First, Second}
 use Rattle.store.specs.declared.records.PageSet.TheVariants as page_set
 use Rattle.store.specs.declared.records.Root.{Root}
+use Rattle.store.proofs.RoundTrips.{set_fits}
 use Rattle.gauge.specs.Memory.{cells, sums_at, counts_at, phase_in, index_in, begun_in, hour_in, pos_in, set_in, sums_in, counts_in, placed, released, reading, saved, rooted, told, noted, closed, asks_root, asks_page, asks_cursor}
 use Rattle.gauge.proofs.Entries.{entry_either}
 use Rattle.gauge.specs.Deeds.{Done}
@@ -64,11 +65,6 @@ SmallEntry (Err x) = Unit {0}
 small_entry : (ss cs : List ℕ) (k v : ℕ) → SmallEntry (entry_with ss cs k v)
 unfolding SmallEntry
 small_entry ss cs k v = entry_either ss cs k v SmallEntry (λ _ sum count. (sum, omega arith)) (λ _. tt)
-
-set_small : (s : PageSet) → set_number s < limit
-set_small page_set.None = lit< tt
-set_small First = lit< tt
-set_small Second = lit< tt
 
 -- KEPT: a memory of the same length, small where the first is
 Kept : (m m₁ : List ℕ) → Type 0
@@ -155,7 +151,7 @@ module _ (m : List ℕ) where
       go None = same m
 
   root_saved_kept : Kept m (root_saved m).memory
-  root_saved_kept = wrote _ 0 rooted (wrote m 5 (set_number (shadow_in m)) (same m) (λ _. set_small (shadow_in m))) (λ _. lit< tt)
+  root_saved_kept = wrote _ 0 rooted (wrote m 5 (set_number (shadow_in m)) (same m) (λ _. set_fits (shadow_in m))) (λ _. lit< tt)
 
   filled_kept : Kept m (filled m).memory
   filled_kept = either m (eqb (begun_in m) 0) _ _ (λ e. same m) (λ e. page_saved_kept 0 (lit< tt))
@@ -186,7 +182,7 @@ module _ (m : List ℕ) where
 
   root_read_kept : (r : Root) → r.hour < limit → r.pos < limit → Kept m (root_read m r)
   root_read_kept r h p =
-      wrote _ 5 (set_number r.set) (wrote _ 4 r.pos (wrote _ 3 r.hour (wrote m 2 _ (same m) (λ _. begun)) (λ _. h)) (λ _. p)) (λ _. set_small r.set)
+      wrote _ 5 (set_number r.set) (wrote _ 4 r.pos (wrote _ 3 r.hour (wrote m 2 _ (same m) (λ _. begun)) (λ _. h)) (λ _. p)) (λ _. set_fits r.set)
     where
       begun : cond (eqb (set_number r.set) 0) 0 1 < limit
       begun = cond_both (eqb (set_number r.set) 0) 0 1 (λ n. n < limit) (λ _. lit< tt) (λ _. lit< tt)
