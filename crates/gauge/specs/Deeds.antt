@@ -39,6 +39,10 @@ out_with (recall d) out = out
 out_with (tells h k s) out = out
 out_with rests out = out
 
+-- how the code answers a deed that leaves the memory as it is
+abbrev pub Answered : Deed → Act → (out out₁ : List ℕ) → Type 0
+Answered d a out out₁ = (a ≡ act_for d) × (out₁ ≡ out_with d out)
+
 -- what a handler leaves and answers
 abbrev pub Did : Done → Act → (memory₁ out out₁ : List ℕ) → Type 0
 Did s a memory₁ out out₁ = (memory₁ ≡ s.memory) × (a ≡ act_for s.deed) × (out₁ ≡ out_with s.deed out)

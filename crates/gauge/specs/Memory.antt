@@ -11,7 +11,7 @@ counts_at = 1032
 abbrev pub cells : ℕ
 cells = 2056
 
--- what the machine is doing, by the numbers of the phases
+-- what the machine did last, by the numbers of the phases
 abbrev pub phase_in : List ℕ → ℕ
 phase_in m = slice_index m 0
 

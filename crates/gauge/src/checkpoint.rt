@@ -3,8 +3,7 @@
 ghost use Rattle.std.specs.Prelude.{◌≡◌, ◌<◌};
 ghost use Rattle.sums.specs.Cells.{pages};
 ghost use Rattle.gauge.specs.Deeds.{Did, Wrote};
-ghost use Rattle.gauge.specs.Kept.{committed};
-ghost use Rattle.gauge.specs.Gauge.{shadow_in, page_saved, root_saved, filled, save_next, hour_ended};
+ghost use Rattle.gauge.specs.Gauge.{committed, shadow_in, page_saved, root_saved, filled, save_next, hour_ended};
 
 use crate::act::Act;
 use crate::keep::{keep_page, keep_record};

@@ -2,8 +2,7 @@
 ghost use Rattle.std.specs.Prelude.{◌<◌};
 ghost use Rattle.sums.specs.Cells.{pages};
 ghost use Rattle.sums.specs.Pages.{page_bytes};
-ghost use Rattle.gauge.specs.Deeds.{keep};
-ghost use Rattle.gauge.specs.Kept.{Kept};
+ghost use Rattle.gauge.specs.Deeds.{keep, Answered};
 ghost use Rattle.gauge.specs.Memory.{page_sums_in, page_counts_in};
 
 use crate::act::Act;
@@ -17,7 +16,7 @@ pub(crate) fn keep_record<const N: usize, R: Record<N>>(
     drawer: u8,
     out: &mut Buffer,
 ) -> Act
-    ensures { Kept (keep drawer (R.bytes_of entry)) result out.old out.new }
+    ensures { Answered (keep drawer (R.bytes_of entry)) result out.old out.new }
 {
     entry.encode(out).unwrap();
     Act::Keep(drawer, R::BYTES as u16)
@@ -26,7 +25,7 @@ pub(crate) fn keep_record<const N: usize, R: Record<N>>(
 // A page of the tables in memory, into this drawer. The page is a number, as it is in memory, and no type of three uses.
 pub(crate) fn keep_page(memory: &Memory, page: u64, drawer: u8, out: &mut Buffer) -> Act
     requires { page < pages }
-    ensures { Kept (keep drawer (page_bytes (page_sums_in memory.now page) (page_counts_in memory.now page))) result out.old out.new }
+    ensures { Answered (keep drawer (page_bytes (page_sums_in memory.now page) (page_counts_in memory.now page))) result out.old out.new }
 {
     let at = PAGE * page as usize;
     let sums = &memory[SUMS + at..SUMS + at + PAGE];

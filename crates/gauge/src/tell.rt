@@ -2,8 +2,7 @@
 ghost use Rattle.std.specs.Prelude.{◌≡◌, ◌<◌, []};
 ghost use Rattle.sums.specs.Cells.{places};
 ghost use Rattle.gauge.specs.Deeds.{Did};
-ghost use Rattle.gauge.specs.Gauge.{first_to_tell, next_cell, cell_told, hour_closed, cursor_noted, tell_next};
-ghost use Rattle.gauge.specs.Scan.{counted_from};
+ghost use Rattle.gauge.specs.Gauge.{first_to_tell, counted_from, next_cell, cell_told, hour_closed, cursor_noted, tell_next};
 
 use crate::act::Act;
 use crate::keep::keep_record;
@@ -26,7 +25,6 @@ pub(crate) fn tell_next(memory: &mut Memory, out: &mut Buffer) -> Act
 }
 
 // The first cell that is not told yet and has a reading, or PLACES.
-#[tactic(auto, unfolding(crate::specs::Scan::counted_from))]
 fn next_cell(memory: &Memory) -> u64
     ensures { result ≡ next_cell memory.now }
 {

@@ -19,6 +19,7 @@ use Rattle.store.specs.declared.records.PageSet.{PageSet}
 use Rattle.store.specs.declared.records.PageSet.TheVariants.{First, Second}
 use Rattle.store.specs.declared.records.PageSet.TheVariants as page_set
 use Rattle.store.specs.declared.records.Root.{Root}
+use Rattle.store.proofs.RoundTrips.{set_fits}
 use Rattle.gauge.specs.Memory.{cells, sums_at, counts_at, phase_in, index_in, begun_in, hour_in, pos_in, set_in, sums_in, counts_in, placed, released, reading, saved, rooted, told, noted, closed, asks_root, asks_page, asks_cursor}
 use Rattle.gauge.proofs.Entries.{entry_either}
 use Rattle.gauge.specs.Deeds.{Done}
@@ -65,11 +66,6 @@ small_entry : (ss cs : List ℕ) (k v : ℕ) → SmallEntry (entry_with ss cs k 
 unfolding SmallEntry
 small_entry ss cs k v = entry_either ss cs k v SmallEntry (λ _ sum count. (sum, omega arith)) (λ _. tt)
 
-set_small : (s : PageSet) → set_number s < limit
-set_small page_set.None = lit< tt
-set_small First = lit< tt
-set_small Second = lit< tt
-
 -- KEPT: a memory of the same length, small where the first is
 Kept : (m m₁ : List ℕ) → Type 0
 Kept m m₁ = (length m₁ ≡ length m) × (all_small m ≡ true → all_small m₁ ≡ true)
@@ -100,7 +96,7 @@ module _ (m : List ℕ) where
   -- zeros from a place on, and all zeros
   cleared_kept : Kept m (cleared m)
   unfolding Kept all_small
-  cleared_kept = wrote _ 5 0 (wrote _ 2 0 zeros (λ _. lit< tt)) (λ _. lit< tt)
+  cleared_kept = wrote _ 2 0 zeros (λ _. lit< tt)
     where
       zeros : Kept m (take sums_at m ++ replicate (length m - sums_at) 0)
       zeros = (
@@ -155,7 +151,7 @@ module _ (m : List ℕ) where
       go None = same m
 
   root_saved_kept : Kept m (root_saved m).memory
-  root_saved_kept = wrote _ 0 rooted (wrote m 5 (set_number (shadow_in m)) (same m) (λ _. set_small (shadow_in m))) (λ _. lit< tt)
+  root_saved_kept = wrote _ 0 rooted (wrote m 5 (set_number (shadow_in m)) (same m) (λ _. set_fits (shadow_in m))) (λ _. lit< tt)
 
   filled_kept : Kept m (filled m).memory
   filled_kept = either m (eqb (begun_in m) 0) _ _ (λ e. same m) (λ e. page_saved_kept 0 (lit< tt))
@@ -174,7 +170,7 @@ module _ (m : List ℕ) where
       (phase saved _ _ save_next_kept
       (phase rooted _ _ (phase_set placed (lit< tt))
       (phase told _ _ (phase_set noted (lit< tt))
-      (phase noted _ _ tell_next_kept (phase closed _ _ (wrote _ 0 rooted cleared_kept (λ _. lit< tt)) (same m)))))))
+      (phase noted _ _ tell_next_kept (phase closed _ _ (wrote _ 0 rooted (wrote _ 5 0 cleared_kept (λ _. lit< tt)) (λ _. lit< tt)) (same m)))))))
     where
       phase : (p : ℕ) (s t : Done) → Kept m s.memory → Kept m t.memory → Kept m (cond (eqb (phase_in m) p) s t).memory
       phase p s t k l = either m (eqb (phase_in m) p) s t (λ _. k) (λ _. l)
@@ -186,7 +182,7 @@ module _ (m : List ℕ) where
 
   root_read_kept : (r : Root) → r.hour < limit → r.pos < limit → Kept m (root_read m r)
   root_read_kept r h p =
-      wrote _ 5 (set_number r.set) (wrote _ 4 r.pos (wrote _ 3 r.hour (wrote m 2 _ (same m) (λ _. begun)) (λ _. h)) (λ _. p)) (λ _. set_small r.set)
+      wrote _ 5 (set_number r.set) (wrote _ 4 r.pos (wrote _ 3 r.hour (wrote m 2 _ (same m) (λ _. begun)) (λ _. h)) (λ _. p)) (λ _. set_fits r.set)
     where
       begun : cond (eqb (set_number r.set) 0) 0 1 < limit
       begun = cond_both (eqb (set_number r.set) 0) 0 1 (λ n. n < limit) (λ _. lit< tt) (λ _. lit< tt)

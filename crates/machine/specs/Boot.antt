@@ -1,9 +1,7 @@
 -- Boot: a machine that wakes recalls from its drawers the root record, the pages that it names, and the cursor. Assumes nothing: these are definitions.
 use Rattle.std.specs.Prelude.{ℕ, ◌+◌, ◌*◌, Bool, cond, ◌&&◌, List, length, replicate, Some, None, Option, ◌==◌, nat_lt, slice_set}
 use Rattle.sums.specs.Cells.{pages, slots}
-use Rattle.sums.specs.Digits.{fits}
-use Rattle.sums.specs.Pages.{page_sums, page_counts, page_length, sum_width, count_width}
-use Rattle.sums.specs.Sums.{every}
+use Rattle.sums.specs.Pages.{page_sums, page_counts, page_length, numbers_fit}
 use Rattle.sums.specs.Written.{written}
 use Rattle.store.specs.Records.{root_of, cursor_of, set_number}
 use Rattle.store.specs.Drawers.{root_drawer, cursor_drawer, page_drawer}
@@ -38,7 +36,7 @@ abbrev pub page_read : List ℕ → (page : ℕ) → List ℕ → List ℕ
 page_read m p bs = written (written m (sums_at + slots * p) (page_sums bs)) (counts_at + slots * p) (page_counts bs)
 
 abbrev pub page_fits : List ℕ → Bool
-page_fits bs = length bs == page_length && (every (fits sum_width) (page_sums bs) && every (fits count_width) (page_counts bs))
+page_fits bs = length bs == page_length && numbers_fit bs
 
 abbrev pub page_recalled : List ℕ → List ℕ → Done
 page_recalled m bs =

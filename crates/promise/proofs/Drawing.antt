@@ -14,7 +14,7 @@ use Rattle.sums.proofs.Places.{cell_back, place_fits}
 use Rattle.store.specs.Drawers.{Drawers, drawers, drawer_at, root_drawer, cursor_drawer, page_drawer}
 use Rattle.store.specs.Kept.{Kept, kept, kept_of, page_cut}
 use Rattle.store.specs.Laws.{TablesFit, PagesKept, cut_bytes}
-use Rattle.store.specs.Records.{root, root_bytes, root_of, cursor, cursor_bytes, set_number, shadow_of, RootFits, CursorFits}
+use Rattle.store.specs.Records.{root, root_bytes, root_bytes_long, root_of, cursor, cursor_bytes, cursor_bytes_long, set_number, shadow_of, RootFits, CursorFits}
 use Rattle.store.specs.declared.records.PageSet.{PageSet}
 use Rattle.store.specs.declared.records.PageSet.TheVariants.{First, Second}
 use Rattle.store.specs.declared.records.PageSet.TheVariants as page_set
@@ -22,7 +22,7 @@ use Rattle.store.specs.declared.records.Root.{Root}
 use Rattle.store.proofs.Checkpoints.{cursor_alone, shadow_page, shadow_other, commit, blank}
 use Rattle.store.proofs.Columns.{length_cut, cut_fits}
 use Rattle.store.proofs.Numbered.{page_within, page_apart, pages_apart}
-use Rattle.store.proofs.RoundTrips.{root_back, length_root, length_cursor, root_all_bytes, cursor_all_bytes}
+use Rattle.store.proofs.RoundTrips.{root_back, root_all_bytes, cursor_all_bytes}
 use Rattle.gauge.specs.Gauge.{set_named}
 use Rattle.machine.specs.Boot.{page_fits}
 use Rattle.machine.specs.Run.{bytes}
@@ -157,10 +157,10 @@ bytes_fit : (bs : List ℕ) (n : ℕ) → length bs ≡ n → n ≤ 4096 → eve
 bytes_fit bs n len le all = and_from _ _ (le-leb (length bs) 4096 (omega arith)) all
 
 pub cursor_bytes_fit : (h c : ℕ) → bytes (cursor_bytes (cursor h c)) ≡ true
-cursor_bytes_fit h c = bytes_fit (cursor_bytes (cursor h c)) 16 (length_cursor (cursor h c)) (omega arith) (cursor_all_bytes (cursor h c))
+cursor_bytes_fit h c = bytes_fit (cursor_bytes (cursor h c)) 16 (cursor_bytes_long (cursor h c)) (omega arith) (cursor_all_bytes (cursor h c))
 
 pub root_bytes_fit : (s : PageSet) (h p : ℕ) → bytes (root_bytes (root s h p)) ≡ true
-root_bytes_fit s h p = bytes_fit (root_bytes (root s h p)) 24 (length_root (root s h p)) (omega arith) (root_all_bytes (root s h p))
+root_bytes_fit s h p = bytes_fit (root_bytes (root s h p)) 24 (root_bytes_long (root s h p)) (omega arith) (root_all_bytes (root s h p))
 
 pub page_bytes_fit : (p : ℕ) (ss cs : List ℕ) → p < pages → length ss ≡ places → length cs ≡ places → bytes (cut_bytes p ss cs) ≡ true
 page_bytes_fit p ss cs lt ls lc =

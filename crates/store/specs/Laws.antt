@@ -45,11 +45,12 @@ CommitLaw =
     × ((ds : Drawers) (r : Root) (ss cs : List ℕ) → length ds ≡ drawers → RootFits r → TablesFit ss cs → (r.set ≢ page_set.None) →
     PagesKept ds r.set ss cs pages → kept_of (with_drawer ds root_drawer (root_bytes r)) ≡ kept r ss cs (kept_of ds).cursor)
 
--- the drawers once the first n pages of two tables are kept in those of a set
+-- the drawers once a page is kept in its drawer, if there is one
 abbrev pub with_page : Drawers → Option ℕ → List ℕ → Drawers
 with_page ds None bs = ds
 with_page ds (Some d) bs = with_drawer ds d bs
 
+-- the drawers once the first n pages of two tables are kept in those of a set
 unfoldable pub with_pages : Drawers → PageSet → (sums counts : List ℕ) → (n : ℕ) → Drawers
 with_pages ds s ss cs zero = ds
 with_pages ds s ss cs (suc n) = with_page (with_pages ds s ss cs n) (page_drawer s n) (cut_bytes n ss cs)

@@ -2,7 +2,7 @@
 use Rattle.std.specs.Prelude.{◌≡◌, ℕ, ◌*◌, ◌^◌, ◌<◌, true, cond, List, [], ◌∷◌, ◌++◌, length, drop, Some, None, Ok, Err, Option, Result, ◌==◌, ◌≢◌, nat_le, nat_lt, refl}
 use Rattle.std.specs.Option.{option_map, unwrap_or}
 use Rattle.sums.specs.Digits as sums
-use Rattle.sums.specs.Digits.{row_bytes, row_numbers}
+use Rattle.sums.specs.Digits.{fits, row_bytes, row_numbers}
 use Rattle.sums.specs.Sums.{every}
 use Rattle.store.specs.declared.records.Cursor.{Cursor}
 use Rattle.store.specs.declared.records.PageSet.{PageSet}
@@ -133,11 +133,13 @@ pub record CursorFits (c : Cursor) : Type 0 where
   pub hour : c.hour < number_limit
   pub cell : c.cell < number_limit
 
--- A root record has its length in bytes, and is read back where its numbers fit. What has another length stands for the zero record.
+-- A root record has its length in bytes, and is read back where its numbers fit. What has another length, and numbers of which the first is that of no set, stand
+-- for the zero record.
 unfoldable pub RootRoundTrip : Type 0
 RootRoundTrip =
     ((r : Root) → (length (root_bytes r) ≡ root_length) × (every (λ b. nat_lt b 256) (root_bytes r) ≡ true) × (RootFits r → root_of (root_bytes r) ≡ r))
     × ((bs : List ℕ) → (length bs ≢ root_length) → root_of bs ≡ zero_root)
+    × ((n h p : ℕ) → every (fits number_width) (n ∷ h ∷ p ∷ []) ≡ true → numbered_set n ≡ None → root_of (row_bytes number_width (n ∷ h ∷ p ∷ [])) ≡ zero_root)
 
 -- The same of a cursor.
 unfoldable pub CursorRoundTrip : Type 0

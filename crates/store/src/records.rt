@@ -131,7 +131,7 @@ pub trait Record<const N: usize>: Copy {
     }
 }
 
-// The commit record of a checkpoint: whose pages hold the tables, of which hour, and where in the row of readings they end.
+// The commit record, kept at the end of a checkpoint and of an hour: whose pages hold the tables, of which hour, and where in the row of readings they end.
 #[derive(Clone, Copy, PartialEq, Eq, Debug)]
 pub struct Root {
     pub set: PageSet,

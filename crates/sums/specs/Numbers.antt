@@ -1,6 +1,7 @@
 -- What readers and writers of numbers answer and leave. Assumes nothing: these are definitions.
-use Rattle.std.specs.Prelude.{◌≡◌, ℕ, ◌+◌, ◌*◌, ◌≤◌, false, cond, ◌&&◌, List, ◌++◌, length, take, drop, is_ok, Some, None, Ok, Err, Option, Result, nat_le}
-use Rattle.sums.specs.Digits.{widest, value, row_bytes, row_numbers}
+use Rattle.std.specs.Prelude.{◌≡◌, ℕ, ◌+◌, ◌*◌, ◌≤◌, true, false, cond, ◌&&◌, List, ◌++◌, length, take, drop, is_ok, Some, None, Ok, Err, Option, Result, nat_le}
+use Rattle.sums.specs.Sums.{every}
+use Rattle.sums.specs.Digits.{widest, fits, value, row_bytes, row_numbers}
 use Rattle.sums.specs.declared.numbers.RowError.{RowError}
 use Rattle.sums.specs.declared.numbers.RowError.TheVariants.{TooWide, TooShort}
 
@@ -8,6 +9,10 @@ use Rattle.sums.specs.declared.numbers.RowError.TheVariants.{TooWide, TooShort}
 abbrev pub NumberSays : (width : ℕ) (bytes : List ℕ) → Option (ℕ × List ℕ) → Type 0
 NumberSays w bs None = nat_le w widest && nat_le w (length bs) ≡ false
 NumberSays w bs (Some p) = (w ≤ widest) × (p.0 ≡ value (take w bs)) × (p.1 ≡ drop w bs) × (length p.1 + w ≡ length bs)
+
+-- What is written is read back, whatever stands behind it, where each number fits the width.
+unfoldable pub NumbersLaw : Type 0
+NumbersLaw = (w : ℕ) (ns rest : List ℕ) → every (fits w) ns ≡ true → row_numbers w (length ns) (row_bytes w ns ++ rest) ≡ ns
 
 -- so many numbers have room in so many bytes, where there are numbers of this width
 abbrev pub row_room : (width count bytes : ℕ) → Result (Unit {0}) RowError

@@ -2,7 +2,7 @@
 ghost use Rattle.std.specs.Prelude.{◌≡◌, ◌*◌, ◌≤◌, true, length, take, drop, ◌↔◌, IsSome, IfSome, IfOk, IfErr, Ok, Err};
 ghost use Rattle.std.specs.Option.{option_map};
 ghost use Rattle.sums.specs.Digits.{widest, digits, value, fits, row_numbers};
-ghost use Rattle.sums.specs.Numbers.{NumberSays, row_room, row_answer, row_read, row_over, row_written};
+ghost use Rattle.sums.specs.Numbers.{NumberSays, NumbersLaw, row_room, row_answer, row_read, row_over, row_written};
 ghost use Rattle.sums.specs.Sums.{every};
 
 // No number has more bytes.
@@ -123,3 +123,8 @@ fn put_number(number: u64, out: &mut [u8])
     let bytes = number.to_le_bytes();
     out.copy_from_slice(&bytes[..out.len()]);
 }
+
+// Theorem: what is written of a row of numbers is read back, at any width that they fit.
+pub fn numbers_law()
+    ensures { NumbersLaw }
+{}

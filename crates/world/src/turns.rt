@@ -1,16 +1,16 @@
 // What happens to the world: machines work, letters come, lightning strikes, calm.
 ghost use Rattle.std.specs.Prelude.{◌≡◌, false, IfOk, OnOk};
 ghost use Rattle.machine.specs.Entry.{own};
-ghost use Rattle.machine.specs.Run.{machine_at, nth_row, delivered, fallen, goes, new_world};
+ghost use Rattle.machine.specs.Run.{machine_at, nth_row, poked, delivered, fallen, goes};
 ghost use Rattle.sums.specs.Readings.{as_row, as_gauges};
 ghost use Rattle.world.specs.Rounds.{pokes, letters_to, a_round, all_rounds, written_out};
-ghost use Rattle.world.specs.Tallies.{none_counted, next_counted, acts_counted, all_counted};
+ghost use Rattle.world.specs.Tallies.{next_counted, acts_counted, all_counted};
 ghost use Rattle.world.specs.Worlds.{as_world, Went, took_place, Passed};
 
-use crate::tally::{Kind, Tally};
+use crate::tally::Kind;
 use crate::wires::{cut, take_letter};
 use crate::world::World;
-use hut::{Desk, Hut, Pending};
+use hut::Pending;
 use machine::MACHINES;
 use river::Item;
 use std::alloc::{AllocError, Global};
@@ -28,6 +28,19 @@ fn row_of(gauges: &[Vec<Reading>], i: u64) -> &[Reading]
 
 // Heap and gauges go along as two arguments: bound in one, they would only have a longer name in each contract.
 impl World {
+    // Machine i is told to go on, if it rests.
+    fn poke(&mut self, i: u64)
+        ensures world { as_world self.new ≡ poked (as_world self.old) i }
+        ensures counts { self.new.tally.counts ≡ self.old.tally.counts }
+    {
+        let Some(hut) = self.huts.get_mut(i as usize) else {
+            return;
+        };
+        if hut.rests() {
+            hut.hear(Pending::Next);
+        }
+    }
+
     // The oldest letter from i to j comes, if j rests.
     fn deliver(&mut self, i: u64, j: u64)
         ensures world { as_world self.new ≡ delivered (as_world self.old) i j }
@@ -191,25 +204,5 @@ impl World {
             Item::Calm(rounds, acts) => self.calm(heap, gauges, rounds, acts)?,
         }
         Ok(())
-    }
-
-    // All machines wake; nothing is on the wires or on the wall.
-    pub fn new(heap: Global) -> Result<World, AllocError>
-        ensures world { IfOk result (λ w. as_world w ≡ new_world own) }
-        ensures counts { IfOk result (λ w. w.tally.counts ≡ none_counted) }
-    {
-        let mut huts = Vec::new(heap);
-        for i in 0..MACHINES {
-            huts.push(Hut::new(heap, i)?)?;
-        }
-        let desk = Desk::new(heap)?;
-        Ok(World {
-            huts,
-            wires: Vec::new(heap),
-            told: Vec::new(heap),
-            fault: false,
-            desk,
-            tally: Tally::new(),
-        })
     }
 }

@@ -1,14 +1,17 @@
 // Eight machines in their huts, the wires between them, and the wall.
-ghost use Rattle.std.specs.Prelude.{◌≡◌, OnOk};
-ghost use Rattle.machine.specs.Run.{poked};
+ghost use Rattle.std.specs.Prelude.{◌≡◌, IfOk, OnOk};
+ghost use Rattle.machine.specs.Entry.{own};
+ghost use Rattle.machine.specs.Run.{new_world};
 ghost use Rattle.hut.specs.Effects.{posted};
+ghost use Rattle.world.specs.Tallies.{none_counted};
 ghost use Rattle.world.specs.Worlds.{as_world};
 
 use crate::post::Letter;
 use crate::tally::Tally;
-use hut::{Desk, Effect, Hut, Pending};
+use hut::{Desk, Effect, Hut};
+use machine::MACHINES;
 use rows::Row;
-use std::alloc::AllocError;
+use std::alloc::{AllocError, Global};
 
 #[derive(Drop)]
 pub struct World {
@@ -24,17 +27,24 @@ pub struct World {
 }
 
 impl World {
-    // Machine i is told to go on, if it rests.
-    pub(crate) fn poke(&mut self, i: u64)
-        ensures world { as_world self.new ≡ poked (as_world self.old) i }
-        ensures counts { self.new.tally.counts ≡ self.old.tally.counts }
+    // All machines wake; nothing is on the wires or on the wall.
+    pub fn new(heap: Global) -> Result<World, AllocError>
+        ensures world { IfOk result (λ w. as_world w ≡ new_world own) }
+        ensures counts { IfOk result (λ w. w.tally.counts ≡ none_counted) }
     {
-        let Some(hut) = self.huts.get_mut(i as usize) else {
-            return;
-        };
-        if hut.rests() {
-            hut.hear(Pending::Next);
+        let mut huts = Vec::new(heap);
+        for i in 0..MACHINES {
+            huts.push(Hut::new(heap, i)?)?;
         }
+        let desk = Desk::new(heap)?;
+        Ok(World {
+            huts,
+            wires: Vec::new(heap),
+            told: Vec::new(heap),
+            fault: false,
+            desk,
+            tally: Tally::new(),
+        })
     }
 
     // What is seen of an act of machine i: a row goes on the wall, a letter on the wires.
