@@ -1,5 +1,5 @@
 // What outlives a kill: a file for each drawer, and one for how much of the row is released.
-use crate::files::released;
+use crate::files::{drawer_name, released, released_text};
 use anyhow::{anyhow, ensure};
 use hut::{Hut, Text};
 use machine::DRAWERS;
@@ -33,7 +33,8 @@ impl Disk {
     fn drawer(&self, rt: &HostRuntime, drawer: u64) -> anyhow::Result<Text> {
         let heap = rt.alloc();
         let folder = self.folder.as_str();
-        let path = format!(in heap; "{folder}/drawer-{drawer}")?;
+        let name = drawer_name(heap, drawer)?;
+        let path = format!(in heap; "{folder}/{name}")?;
         let Some(bytes) = read(rt, path.as_str())? else {
             return Ok(Text::empty(heap));
         };
@@ -78,12 +79,12 @@ impl Disk {
     }
 
     pub fn keep(&self, rt: &HostRuntime, drawer: u64, text: &[u8]) -> anyhow::Result<()> {
-        let name = format!(in rt.alloc(); "drawer-{drawer}")?;
+        let name = drawer_name(rt.alloc(), drawer)?;
         self.replace(rt, name.as_str(), text)
     }
 
     pub fn release(&self, rt: &HostRuntime, place: u64) -> anyhow::Result<()> {
-        let text = format!(in rt.alloc(); "{place}\n")?;
+        let text = released_text(rt.alloc(), place)?;
         self.replace(rt, "released", text.as_str().as_bytes())
     }
 }

@@ -1,9 +1,18 @@
 // Files that a kill may have left as they were before, or with a last line that is not whole.
-ghost use Rattle.std.specs.Prelude.{◌≡◌, ◌≤◌, length};
+ghost use Rattle.std.specs.Prelude.{◌≡◌, ◌≤◌, ◌++◌, length, codes, decimal as written, IfOk, Some, string_bytes};
 ghost use Rattle.text.specs.Text.{lines};
 ghost use Rattle.keeper.specs.Stations.{lone_line, NoEndFrom, EndsAt};
 
+use std::alloc::{AllocError, Global};
 use text::{decimal, first_line, first_word};
+
+// The name of a drawer's file.
+pub fn drawer_name(heap: Global, drawer: u64) -> Result<String, AllocError>
+    ensures { IfOk result (λ s. string_bytes s ≡ codes "drawer-" ++ written drawer) }
+{
+    let name = format!(in heap; "drawer-{drawer}")?;
+    Ok(name)
+}
 
 // The number that a file of one line has.
 pub fn released(text: &[u8]) -> Option<u64>
@@ -18,6 +27,14 @@ pub fn released(text: &[u8]) -> Option<u64>
         return None;
     }
     decimal(word)
+}
+
+// The file in which `released` finds this number.
+pub fn released_text(heap: Global, place: u64) -> Result<String, AllocError>
+    ensures { IfOk result (λ s. lone_line (lines (string_bytes s)) ≡ Some place) }
+{
+    let text = format!(in heap; "{place}\n")?;
+    Ok(text)
 }
 
 // How many bytes of a wall are whole rows: what follows the last end of a line was never a row.

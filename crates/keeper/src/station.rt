@@ -3,7 +3,7 @@ use crate::disk::Disk;
 use crate::options::Options;
 use crate::own_gauge::readings;
 use crate::wall::Wall;
-use anyhow::anyhow;
+use anyhow::{anyhow, ensure};
 use hut::{Desk, Effect, Hut};
 use sums::Reading;
 
@@ -39,18 +39,23 @@ impl Station {
         })
     }
 
-    // So many turns at most, till the machine rests; whether it does.
+    // So many turns at most, till the machine rests; whether it does. With drawers that belong together it rests only where all is released.
     pub fn work(&mut self, rt: &HostRuntime, turns: u64) -> anyhow::Result<bool> {
         let heap = rt.alloc();
         for _ in 0..turns {
             let row = self.row.as_slice();
             let turned = self.hut.take_turn(heap, &mut self.desk, row, self.machine)?;
             let Some(effect) = turned else {
-                return Ok(true);
+                break;
             };
             self.carry_out(rt, effect)?;
         }
-        Ok(self.hut.rests())
+        let rests = self.hut.rests();
+        ensure!(
+            !rests || self.hut.gone >= self.row.len() as u64,
+            "the machine rests, and its row is not released: its drawers do not belong together"
+        );
+        Ok(rests)
     }
 
     // Makes an act last.

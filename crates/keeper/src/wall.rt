@@ -5,6 +5,7 @@ use rows::Row;
 use std::fs::{File, OpenOptions};
 use std::io;
 use std::io::{Read, Write};
+use std::path::Path;
 
 #[derive(Drop)]
 pub struct Wall {
@@ -26,7 +27,17 @@ fn opened(rt: &HostRuntime, path: &str) -> io::Result<File> {
         file.set_len(whole as u64)?;
     }
     file.sync_all()?;
+    sync_folder(rt, path)?;
     Ok(file)
+}
+
+// Syncs the folder that holds the file: a file that is new is there after a power cut only then.
+fn sync_folder(rt: &HostRuntime, path: &str) -> io::Result<()> {
+    let folder = Path::new(path)
+        .parent()
+        .filter(|folder| !folder.as_os_str().is_empty())
+        .unwrap_or(Path::new("."));
+    File::open(rt, folder)?.sync_all()
 }
 
 fn append(file: &mut File, line: &[u8]) -> io::Result<()> {

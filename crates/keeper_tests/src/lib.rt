@@ -136,6 +136,64 @@ mod tests {
         Ok(())
     }
 
+    // 513 times 1 to 8.
+    const LONG_WALL: &str = "hour 0 place 0: 513
+hour 0 place 1: 1026
+hour 0 place 2: 1539
+hour 0 place 3: 2052
+hour 0 place 4: 2565
+hour 0 place 5: 3078
+hour 0 place 6: 3591
+hour 0 place 7: 4104
+";
+
+    // An hour of more readings than the roll holds: 513 at each of 8 places, whose sums are on 8 different pages. A reading at place P is P + 1.
+    fn long_options(rt: &HostRuntime, name: &str) -> Result<Options, Fail> {
+        let options = options(rt, name)?;
+        let mut river = String::new(rt.alloc());
+        writeln!(river, "gauge 0")?;
+        for _ in 0..513 {
+            for place in 0..8 {
+                writeln!(river, "0 {place} {}", place + 1)?;
+            }
+        }
+        fs::write(rt, options.gauge.as_str(), river.as_str())?;
+        Ok(options)
+    }
+
+    // Turns 4,102 to 4,109 keep the pages, 4,110 keeps the root, and 4,112 releases the first 4,096 readings.
+    #[test]
+    fn let_go_while_a_checkpoint_is_kept(rt: HostRuntime) -> Result<(), Fail> {
+        for n in [4101, 4102, 4103, 4106, 4109, 4110, 4111, 4112] {
+            let name = format!(in rt.alloc(); "checkpoint-{n}")?;
+            let options = long_options(&rt, name.as_str())?;
+            assert!(rt; !turns(&rt, &options, n)?);
+            assert!(rt; turns(&rt, &options, 10_000)?);
+            assert!(rt; fs::read_to_string(&rt, options.wall.as_str())?.as_str() == LONG_WALL);
+        }
+        Ok(())
+    }
+
+    // After a checkpoint.
+    #[test]
+    fn a_page_that_was_cut(rt: HostRuntime) -> Result<(), Fail> {
+        let options = long_options(&rt, "cut")?;
+        assert!(rt; !turns(&rt, &options, 4112)?);
+        assert!(rt; fs::read_to_string(&rt, "cut/drawers/released")?.as_str() == "4096\n");
+        fs::write(&rt, "cut/drawers/drawer-10", "cut")?;
+        let mut station = Station::open(&rt, &options)?;
+        let Err(error) = station.work(&rt, 10_000) else {
+            return Err(Fail::new("it works on a page that was cut"));
+        };
+        let said = format!(in rt.alloc(); "{error}")?;
+        assert!(rt;
+            said.as_str()
+                == "the machine rests, and its row is not released: its drawers do not belong together"
+        );
+        assert!(rt; fs::read_to_string(&rt, options.wall.as_str())?.is_empty());
+        Ok(())
+    }
+
     // Each machine reads its own gauge, and only the first has readings.
     #[test]
     fn a_quiet_gauge(rt: HostRuntime) -> Result<(), Fail> {
