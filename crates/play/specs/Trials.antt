@@ -3,7 +3,7 @@ use Rattle.std.specs.Prelude.{◌≡◌, ℕ, ◌+◌, min, Bool, true, ◌&&◌
 use Rattle.sums.specs.Sums.{pick, Gauges, all_told}
 use Rattle.machine.specs.Run as run
 use Rattle.rows.specs.Walls.{wrong_rows, JustWhen}
-use Rattle.play.specs.Scores.{told_again}
+use Rattle.promise.specs.Once.{told_again}
 use Rattle.play.specs.declared.trials.Score.{Score}
 
 -- within 64 bits

@@ -5,7 +5,8 @@ ghost use Rattle.machine.specs.Entry.{own};
 ghost use Rattle.machine.specs.Run.{new_world};
 ghost use Rattle.rows.specs.Walls.{as_wall};
 ghost use Rattle.world.specs.Tallies.{none_counted};
-ghost use Rattle.play.specs.Scores.{told_again, acts_of_each};
+ghost use Rattle.promise.specs.Once.{told_again};
+ghost use Rattle.play.specs.Scores.{acts_of_each};
 
 use river::Item;
 use rows::Row;

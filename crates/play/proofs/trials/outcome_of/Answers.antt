@@ -3,7 +3,7 @@ use mir.Val.{bool_byte}
 use Rattle.sums.specs.Sums.{pick}
 use Rattle.sums.proofs.Eaches.{length_each}
 use Rattle.rows.specs.Walls.{as_told, as_wall}
-use Rattle.play.specs.Scores.{told_again}
+use Rattle.promise.specs.Once.{told_again}
 use Rattle.play.proofs.trials.outcome_of.Goals as goal
 
 one_or_none : (b : Bool) → bool_byte b ≡ pick b 1 0
