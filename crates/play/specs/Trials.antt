@@ -1,9 +1,10 @@
 -- What came of rivers, and how it is added up. Assumes nothing: these are definitions.
-use Rattle.std.specs.Prelude.{◌≡◌, ℕ, ◌+◌, min, Bool, true, ◌&&◌, [], ◌∷◌, length, ◌==◌}
-use Rattle.sums.specs.Sums.{pick, Gauges, all_told}
+use Rattle.std.specs.Prelude.{◌≡◌, ℕ, ◌+◌, min, Bool, true, ◌&&◌, [], ◌∷◌, length, ◌==◌, List}
+use Rattle.sums.specs.Sums.{pick, Gauges, ToldSum, all_told}
 use Rattle.machine.specs.Run as run
 use Rattle.rows.specs.Walls.{wrong_rows, JustWhen}
 use Rattle.promise.specs.Once.{told_again}
+use Rattle.play.specs.Verdicts.{AreUntold}
 use Rattle.play.specs.declared.trials.Score.{Score}
 
 -- within 64 bits
@@ -36,5 +37,6 @@ pub record Scores (gs : Gauges) (w : run.World) (s : Score) : Type 0 where
   pub told : s.told ≡ length w.told
   pub again : s.again ≡ told_again w.told
   pub wrong : s.wrong ≡ wrong_rows gs w.told
-  pub untold : JustWhen (s.untold ≡ 0) (all_told gs w.told ≡ true)
+  pub untold : (rows : List ToldSum) × AreUntold gs w.told rows × (s.untold ≡ length rows)
+  pub none_untold : JustWhen (s.untold ≡ 0) (all_told gs w.told ≡ true)
   pub faults : s.faults ≡ pick w.fault 1 0

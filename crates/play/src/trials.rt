@@ -1,9 +1,9 @@
 // Rivers played and judged, and what came of them added up.
-ghost use Rattle.std.specs.Prelude.{◌≡◌, true, IfOk, vec_len};
+ghost use Rattle.std.specs.Prelude.{◌≡◌, true, IfOk, IfErr, vec_len};
 ghost use Rattle.sums.specs.Sums.{pick, all_told, gauges_fine};
 ghost use Rattle.sums.specs.Readings.{as_gauges};
 ghost use Rattle.promise.specs.Promise.{core};
-ghost use Rattle.rows.specs.Walls.{wrong_rows, JustWhen};
+ghost use Rattle.rows.specs.Walls.{TooMuch, wrong_rows, JustWhen};
 ghost use Rattle.world.specs.Worlds.{as_world};
 ghost use Rattle.play.specs.Plays.{played};
 ghost use Rattle.play.specs.Trials.{all_right, both, readings_after, Scores};
@@ -87,6 +87,7 @@ pub struct Outcome {
 fn outcome_of(heap: Global, gauges: &[Vec<Reading>], world: &World) -> Result<Outcome, WallError>
     ensures verdict { IfOk result (λ t. t.verdict ≡ verdict_of (as_gauges gauges.now) (as_world world.now)) }
     ensures score { IfOk result (λ t. Scores (as_gauges gauges.now) (as_world world.now) t.score) }
+    ensures refused { IfErr result (λ e. TooMuch (as_gauges gauges.now) e) }
 {
     let Judgement {
         verdict,
@@ -109,6 +110,7 @@ pub fn trial(heap: Global, gauges: &[Vec<Reading>], items: &[Item]) -> Result<Ou
     ensures verdict { IfOk result (λ t. t.verdict ≡ verdict_of (as_gauges gauges.now) (played (as_gauges gauges.now) items.now)) }
     ensures right { IfOk result (λ t. gauges_fine (as_gauges gauges.now) ≡ true → core (as_gauges gauges.now) ≡ true → t.verdict ≡ pick (all_told (as_gauges gauges.now) (played (as_gauges gauges.now) items.now).told) AllRight NotAll) }
     ensures score { IfOk result (λ t. Scores (as_gauges gauges.now) (played (as_gauges gauges.now) items.now) t.score) }
+    ensures refused { IfErr result (λ e. TooMuch (as_gauges gauges.now) e) }
 {
     let world = play(heap, gauges, items)?;
     outcome_of(heap, gauges, &world)

@@ -14,12 +14,14 @@ pub returns-clause-score : goal.returns-clause-score
 returns-clause-score c =
     let told = c.args.world.now.told in
     let judged = c.in_ok-verdict.ensures in
+    let rows = c.in_ok-verdict.field-0.comparison.untold in
     record {
       worlds = refl;
       readings = c.count_readings.ensures;
       told = c.len.ensures ∙ told.ok.0 ∙ sym (length_each as_told (vec_items told));
       again = c.in_ok-told_again.ensures ∙ ap (λ l. told_again (as_wall l)) c.as_slice.ensures.value;
       wrong = judged.wrong;
-      untold = (λ e. judged.untold.0 (sym c.len-2.ensures ∙ e), λ e. c.len-2.ensures ∙ judged.untold.1 e);
+      untold = (as_wall (vec_items rows), judged.untold, c.len-2.ensures ∙ rows.ok.0 ∙ sym (length_each as_told (vec_items rows)));
+      none_untold = (λ e. judged.none_untold.0 (sym c.len-2.ensures ∙ e), λ e. c.len-2.ensures ∙ judged.none_untold.1 e);
       faults = c.from.ensures ∙ one_or_none c.args.world.now.fault;
     }

@@ -28,4 +28,5 @@ returns c =
           e ∙ ap (verdict_of gs) is ∙ ap (λ b. pick b Fault (pick (every (is_right gs) w.told) told Wrong)) safe.0 ∙ ap (λ b. pick b told Wrong) safe.1)
           c.outcome_of.ensures.verdict;
       score = IfOk-weaker c.outcome_of.result _ _ (λ t. subst (λ w. Scores gs w t.score) is) c.outcome_of.ensures.score;
+      refused = c.outcome_of.ensures.refused;
     }
