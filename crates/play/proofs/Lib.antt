@@ -2,3 +2,4 @@ mod Unrolling
 mod Growing
 mod Striking
 mod Counting
+mod Strokes

@@ -1,19 +1,11 @@
 -- What is counted of rivers that were played. Assumes nothing: these are definitions.
-use Rattle.std.specs.Prelude.{ℕ, ◌+◌, ◌-◌, List, [], ◌∷◌, ◌++◌}
-use Rattle.sums.specs.Sums.{pick, Gauges, ToldSum, has_told}
+use Rattle.std.specs.Prelude.{ℕ, ◌-◌, List, [], ◌∷◌}
+use Rattle.sums.specs.Sums.{Gauges}
 use Rattle.machine.specs.Run as run
 use Rattle.river.specs.declared.model.Item.{Item}
 use Rattle.world.specs.Rounds.{written_out}
 use Rattle.world.specs.Tallies.{all_counted, total_of}
 use Rattle.world.specs.Worlds.{took_place}
-
--- how many rows are of an hour and a place that stood on the wall before them
-unfoldable pub again_after : List ToldSum → List ToldSum → ℕ
-again_after before [] = 0
-again_after before (t ∷ ts) = pick (has_told before t.hour t.place) 1 0 + again_after (before ++ t ∷ []) ts
-
-abbrev pub told_again : List ToldSum → ℕ
-told_again ts = again_after [] ts
 
 -- how many acts each item takes, from a world and its counts on: those that are counted after it, less those before it
 unfoldable pub acts_of_each : Gauges → run.World → List ℕ → List Item → List ℕ

@@ -5,7 +5,9 @@ ghost use Rattle.machine.specs.Entry.{own};
 ghost use Rattle.machine.specs.Run.{new_world};
 ghost use Rattle.rows.specs.Walls.{as_wall};
 ghost use Rattle.world.specs.Tallies.{none_counted};
-ghost use Rattle.play.specs.Scores.{told_again, acts_of_each};
+ghost use Rattle.promise.specs.Once.{told_again, strokes_in};
+ghost use Rattle.play.specs.Plays.{unrolled};
+ghost use Rattle.play.specs.Scores.{acts_of_each};
 
 use river::Item;
 use rows::Row;
@@ -46,6 +48,14 @@ pub fn told_again(heap: Global, told: &[Row]) -> Result<u64, AllocError>
         }
     }
     Ok(again)
+}
+
+// How many strokes of lightning there are; in calm there is none.
+pub fn strokes_in(items: &[Item]) -> u64
+    ensures { result ≡ strokes_in (unrolled items.now) }
+{
+    let strokes = items.iter().filter(|item| matches!(item, Item::Falls(_)));
+    strokes.count() as u64
 }
 
 // A quotient with two decimals, rounded down.

@@ -1,21 +1,22 @@
 // Rivers played and judged, and what came of them added up.
-ghost use Rattle.std.specs.Prelude.{◌≡◌, true, IfOk, vec_len};
+ghost use Rattle.std.specs.Prelude.{◌≡◌, true, IfOk, IfErr, vec_len};
 ghost use Rattle.sums.specs.Sums.{pick, all_told, gauges_fine};
 ghost use Rattle.sums.specs.Readings.{as_gauges};
 ghost use Rattle.promise.specs.Promise.{core};
-ghost use Rattle.rows.specs.Walls.{wrong_rows, JustWhen};
+ghost use Rattle.rows.specs.Walls.{TooMuch, wrong_rows, JustWhen};
 ghost use Rattle.world.specs.Worlds.{as_world};
-ghost use Rattle.play.specs.Plays.{played};
+ghost use Rattle.play.specs.Plays.{unrolled, played};
 ghost use Rattle.play.specs.Trials.{all_right, both, readings_after, Scores};
 ghost use Rattle.play.specs.Verdicts.{verdict_of};
 ghost use Rattle.play.specs.declared.verdict.Verdict.TheVariants.{Untold as NotAll, Right as AllRight};
 
 use crate::playing::play;
-use crate::score::told_again;
+use crate::score::{strokes_in, told_again};
 use crate::verdict::{Judgement, Verdict, judge};
 use river::Item;
 use rows::WallError;
 use std::alloc::Global;
+use std::fmt;
 use sums::Reading;
 use world::World;
 
@@ -27,6 +28,8 @@ pub struct Score {
     // How many rows are on the walls, and how many of them were told before.
     pub told: u64,
     pub again: u64,
+    // On how many walls more rows were told before than there were strokes.
+    pub too_often: u64,
     pub wrong: u64,
     pub untold: u64,
     pub faults: u64,
@@ -38,16 +41,17 @@ impl Score {
         readings: 0,
         told: 0,
         again: 0,
+        too_often: 0,
         wrong: 0,
         untold: 0,
         faults: 0,
     };
 
-    // Nothing is wrong, untold or at fault.
+    // Nothing is told too often, wrong, untold or at fault.
     pub fn is_right(self) -> bool
         ensures { result ≡ all_right self }
     {
-        self.wrong == 0 && self.untold == 0 && self.faults == 0
+        self.too_often == 0 && self.wrong == 0 && self.untold == 0 && self.faults == 0
     }
 
     // Both together; a count that is full stays full.
@@ -59,6 +63,7 @@ impl Score {
             readings: self.readings.saturating_add(other.readings),
             told: self.told.saturating_add(other.told),
             again: self.again.saturating_add(other.again),
+            too_often: self.too_often.saturating_add(other.too_often),
             wrong: self.wrong.saturating_add(other.wrong),
             untold: self.untold.saturating_add(other.untold),
             faults: self.faults.saturating_add(other.faults),
@@ -83,20 +88,40 @@ pub struct Outcome {
     pub score: Score,
 }
 
-// What came of a world that was played.
-fn outcome_of(heap: Global, gauges: &[Vec<Reading>], world: &World) -> Result<Outcome, WallError>
+// In words: the verdict, and whether rows are told too often.
+impl fmt::Display for Outcome {
+    fn fmt<W: fmt::Write>(&self, f: &mut fmt::Formatter<W>) -> fmt::Result {
+        let Outcome { verdict, score } = *self;
+        write!(f, "{verdict}")?;
+        if score.too_often > 0 {
+            f.write_str("; rows are told too often")?;
+        }
+        Ok(())
+    }
+}
+
+// What came of a world that was played by these items.
+fn outcome_of(
+    heap: Global,
+    gauges: &[Vec<Reading>],
+    items: &[Item],
+    world: &World,
+) -> Result<Outcome, WallError>
     ensures verdict { IfOk result (λ t. t.verdict ≡ verdict_of (as_gauges gauges.now) (as_world world.now)) }
-    ensures score { IfOk result (λ t. Scores (as_gauges gauges.now) (as_world world.now) t.score) }
+    ensures score { IfOk result (λ t. Scores (as_gauges gauges.now) (unrolled items.now) (as_world world.now) t.score) }
+    ensures refused { IfErr result (λ e. TooMuch (as_gauges gauges.now) e) }
 {
     let Judgement {
         verdict,
         comparison,
     } = judge(heap, gauges, world)?;
+    let again = told_again(heap, world.told.as_slice())?;
     let score = Score {
         worlds: 1,
         readings: count_readings(gauges),
         told: world.told.len() as u64,
-        again: told_again(heap, world.told.as_slice())?,
+        again,
+        too_often: u64::from(again > strokes_in(items)),
         wrong: comparison.wrong,
         untold: comparison.untold.len() as u64,
         faults: u64::from(world.fault),
@@ -104,12 +129,14 @@ fn outcome_of(heap: Global, gauges: &[Vec<Reading>], world: &World) -> Result<Ou
     Ok(Outcome { verdict, score })
 }
 
-// The river played from the start and judged. Where only the first gauge has readings, nothing is at fault and no row is wrong.
+// The river played from the start and judged. Where only the first gauge has readings, nothing is at fault, no row is wrong and none is told too often.
 pub fn trial(heap: Global, gauges: &[Vec<Reading>], items: &[Item]) -> Result<Outcome, WallError>
     ensures verdict { IfOk result (λ t. t.verdict ≡ verdict_of (as_gauges gauges.now) (played (as_gauges gauges.now) items.now)) }
     ensures right { IfOk result (λ t. gauges_fine (as_gauges gauges.now) ≡ true → core (as_gauges gauges.now) ≡ true → t.verdict ≡ pick (all_told (as_gauges gauges.now) (played (as_gauges gauges.now) items.now).told) AllRight NotAll) }
-    ensures score { IfOk result (λ t. Scores (as_gauges gauges.now) (played (as_gauges gauges.now) items.now) t.score) }
+    ensures rare { IfOk result (λ t. gauges_fine (as_gauges gauges.now) ≡ true → core (as_gauges gauges.now) ≡ true → t.score.too_often ≡ 0) }
+    ensures score { IfOk result (λ t. Scores (as_gauges gauges.now) (unrolled items.now) (played (as_gauges gauges.now) items.now) t.score) }
+    ensures refused { IfErr result (λ e. TooMuch (as_gauges gauges.now) e) }
 {
     let world = play(heap, gauges, items)?;
-    outcome_of(heap, gauges, &world)
+    outcome_of(heap, gauges, items, &world)
 }

@@ -4,7 +4,7 @@
 #[cfg(test)]
 mod tests {
     use chance::Random;
-    use play::{Ratio, Score, StrikeError, Verdict};
+    use play::{Outcome, Ratio, Score, StrikeError, Verdict};
     use player_args::{ArgsError, Command, command_of};
     use river::{Item, parse};
     use std::alloc::Global;
@@ -62,6 +62,23 @@ mod tests {
         assert_eq!(rt; score.worlds, 20);
         assert!(rt; score.readings > 20_000);
         assert_eq!(rt; score.wrong, 0);
+        assert_eq!(rt; score.too_often, 0);
+        Ok(())
+    }
+
+    // No machine does this; so the score is made by hand.
+    #[test]
+    fn rows_told_too_often(rt: HostRuntime) -> Result<(), Fail> {
+        let outcome = Outcome {
+            verdict: Verdict::Right,
+            score: Score {
+                too_often: 1,
+                ..Score::NONE
+            },
+        };
+        assert!(rt; !outcome.score.is_right());
+        let wanted = "what is told is right, and all is told; rows are told too often";
+        assert!(rt; format!(in rt.alloc(); "{outcome}")?.as_str() == wanted);
         Ok(())
     }
 

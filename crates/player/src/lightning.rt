@@ -1,7 +1,7 @@
 // A river struck after every act, once or twice in a row.
 use crate::progress::Progress;
 use crate::score;
-use play::{Score, Verdict};
+use play::Score;
 use player_args::Strokes;
 use river::{Item, River};
 use sums::Reading;
@@ -26,10 +26,9 @@ impl<'a> Target<'a> {
         let mut items = play::struck(heap, self.items, k, strokes)?;
         items.push(LAST_CALM)?;
         let outcome = play::trial(heap, self.gauges, items.as_slice())?;
-        let verdict = outcome.verdict;
-        if verdict != Verdict::Right {
+        if !outcome.score.is_right() {
             let text = chance::river_text(heap, self.gauges, items.as_slice())?;
-            println!(self.rt; "# {verdict}")?;
+            println!(self.rt; "# {outcome}")?;
             print!(self.rt; "{text}")?;
         }
         Ok(outcome.score)

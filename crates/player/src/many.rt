@@ -1,18 +1,17 @@
 // Rivers made at random, one after the other.
 use crate::progress::Progress;
 use crate::score;
-use play::{Score, Verdict};
+use play::Score;
 
-// Plays the river of a seed; one that is not right, or not told to its end, is printed whole.
+// Plays the river of a seed; one that is not right, not told to its end, or told too often, is printed whole.
 fn play_one(rt: &HostRuntime, seed: u64) -> anyhow::Result<Score> {
     let heap = rt.alloc();
     let text = chance::random_river(heap, seed)?;
     let river = river::parse(heap, text.as_str())?;
     scope::first_alone(river.gauges.as_slice())?;
     let outcome = play::trial(heap, river.gauges.as_slice(), river.items.as_slice())?;
-    let verdict = outcome.verdict;
-    if verdict != Verdict::Right {
-        println!(rt; "# seed {seed}: {verdict}")?;
+    if !outcome.score.is_right() {
+        println!(rt; "# seed {seed}: {outcome}")?;
         print!(rt; "{text}")?;
     }
     Ok(outcome.score)

@@ -11,12 +11,15 @@ pub fn print(
     error: &str,
 ) -> anyhow::Result<()> {
     let Score {
+        too_often,
         wrong,
         untold,
         faults,
         ..
     } = score;
-    println!(rt; "{counted}, {wrong} wrong, {untold} untold, {faults} faults")?;
+    println!(rt;
+        "{counted}, {too_often} too often, {wrong} wrong, {untold} untold, {faults} faults"
+    )?;
     ensure!(score.is_right(), "{error}");
     Ok(())
 }

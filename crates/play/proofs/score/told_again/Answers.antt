@@ -6,7 +6,7 @@ use Rattle.sums.specs.Sums.{pick, each}
 use Rattle.rows.specs.Walls.{as_told, as_wall, pair_cmp, Marks}
 use Rattle.rows.specs.declared.Row.{Row}
 use Rattle.rows.proofs.Walls.{wall_take, no_marks, marked}
-use Rattle.play.specs.Scores.{again_after, told_again}
+use Rattle.promise.specs.Once.{again_after, told_again}
 use Rattle.play.proofs.Counting.{again_step}
 use Rattle.play.proofs.score.told_again.Goals as goal
 use Rattle.play.proofs.score.told_again.Goals.{then-not-branch, else-not-branch}

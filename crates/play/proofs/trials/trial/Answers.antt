@@ -1,16 +1,26 @@
-use Rattle.std.proofs.Common.{◌≡◌, ap, ◌∙◌, subst}
+use Rattle.std.proofs.Common.{◌≡◌, ◌≤◌, true, List, ap, ◌∙◌, subst}
+use Rattle.std.proofs.lemmas.Bool.{le-ltb}
 use Rattle.std.proofs.lemmas.Result.{IfOk-weaker}
-use Rattle.sums.specs.Sums.{all_told, every, is_right, pick}
+use Rattle.sums.specs.Sums.{Gauges, all_told, every, gauges_fine, is_right, pick}
 use Rattle.sums.specs.Readings.{as_gauges}
-use Rattle.promise.specs.Promise.{Safe}
+use Rattle.machine.specs.Run.{calm}
+use Rattle.promise.specs.Promise.{Safe, core}
 use Rattle.promise.specs.Ever.{EverWhole}
+use Rattle.promise.specs.Once.{ToldOnce, told_again, strokes_in}
 use Rattle.promise.proofs.Core.{ever_whole}
+use Rattle.promise.proofs.OnceWorld.{told_once}
+use Rattle.river.specs.declared.model.Item.{Item}
 use Rattle.world.specs.Worlds.{as_world}
 use Rattle.play.specs.Plays.{played, unrolled}
 use Rattle.play.specs.Trials.{Scores}
 use Rattle.play.specs.Verdicts.{verdict_of}
 use Rattle.play.specs.declared.verdict.Verdict.TheVariants.{Fault, Wrong, Untold, Right}
 use Rattle.play.proofs.trials.trial.Goals as goal
+
+-- no more rows are told again than there are strokes
+told_few : (gs : Gauges) (its : List Item) → gauges_fine gs ≡ true → core gs ≡ true → told_again (played gs its).told ≤ strokes_in (unrolled its)
+unfolding ToldOnce calm
+told_few gs its = told_once gs (unrolled its) 0 0
 
 pub returns : goal.returns
 unfolding EverWhole Safe
@@ -27,5 +37,10 @@ returns c =
           let told = pick (all_told gs w.told) Right Untold in
           e ∙ ap (verdict_of gs) is ∙ ap (λ b. pick b Fault (pick (every (is_right gs) w.told) told Wrong)) safe.0 ∙ ap (λ b. pick b told Wrong) safe.1)
           c.outcome_of.ensures.verdict;
-      score = IfOk-weaker c.outcome_of.result _ _ (λ t. subst (λ w. Scores gs w t.score) is) c.outcome_of.ensures.score;
+      rare = IfOk-weaker c.outcome_of.result _ _
+          (λ t s fine known.
+          (subst (λ w. Scores gs (unrolled its) w t.score) is s).too_often ∙ ap (λ b. pick b 1 0) (le-ltb (strokes_in (unrolled its)) (told_again (played gs its).told) (told_few gs its fine known)))
+          c.outcome_of.ensures.score;
+      score = IfOk-weaker c.outcome_of.result _ _ (λ t. subst (λ w. Scores gs (unrolled its) w t.score) is) c.outcome_of.ensures.score;
+      refused = c.outcome_of.ensures.refused;
     }
