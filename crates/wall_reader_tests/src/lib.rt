@@ -231,7 +231,7 @@ mod tests {
     }
 
     // Words, the one that is wrong, and what is said of it.
-    const MISUSED: [(&str, usize, &str); 8] = [
+    const MISUSED: [(&str, usize, &str); 13] = [
         ("--frob", 0, "there is no such option"),
         ("-", 0, "there is no such option"),
         ("a --csv b", 2, "a file is named already"),
@@ -244,6 +244,19 @@ mod tests {
             1,
             "hours are two numbers below 2^64, as 3..12",
         ),
+        (
+            "--hours 9..3",
+            1,
+            "no hours are from the first up to the second",
+        ),
+        (
+            "--hours 3..3",
+            1,
+            "no hours are from the first up to the second",
+        ),
+        ("--hour 3 a --hour 3", 3, "this option is given already"),
+        ("--csv --chart", 1, "--csv or --chart is given already"),
+        ("--chart --chart", 1, "--csv or --chart is given already"),
     ];
 
     #[test]
@@ -267,7 +280,7 @@ mod tests {
     #[test]
     fn words_are_read(rt: HostRuntime) -> Result<(), Fail> {
         let heap = rt.alloc();
-        let line = "--hours 3..12 wall.txt --place 4 --hour 5 --csv --help --chart";
+        let line = "--hours 3..12 wall.txt --place 4 --hour 5 --chart --help";
         let Ok(request) = parse_words(words(heap, line)?.as_slice()) else {
             return Err(Fail::new(line));
         };
