@@ -3,3 +3,4 @@ pub mod Numbers
 pub mod Behind
 pub mod Hexes
 pub mod Written
+pub mod Wholes

@@ -1,5 +1,5 @@
 -- Text as bytes: its lines, the words of a line, and the number that a word writes. Assumes nothing: these are definitions.
-use Rattle.std.specs.Prelude.{◌≡◌, ℕ, ◌+◌, ◌-◌, ◌*◌, Bool, true, cond, ◌&&◌, ◌||◌, List, [], ◌∷◌, Some, None, Option, ◌==◌, nat_eq, nat_le, nat_lt}
+use Rattle.std.specs.Prelude.{◌≡◌, ℕ, ◌+◌, ◌-◌, ◌*◌, Bool, true, cond, ◌&&◌, ◌||◌, List, [], ◌∷◌, length, Some, None, Option, ◌==◌, nat_eq, nat_le, nat_lt}
 use Rattle.text.specs.declared.read.Lines.{Lines}
 
 abbrev pub Bytes : Type 0
@@ -31,6 +31,20 @@ in_front b (part ∷ parts) = (b ∷ part) ∷ parts
 unfoldable pub lines : Bytes → List Bytes
 lines [] = []
 lines (b ∷ bs) = cond (b == 10) ([] ∷ lines bs) (in_front b (lines bs))
+
+-- a byte in front of the first of some lines, if there is one
+abbrev pub in_front_of_first : ℕ → List Bytes → List Bytes
+in_front_of_first b [] = []
+in_front_of_first b (l ∷ ls) = (b ∷ l) ∷ ls
+
+-- the lines that a line feed ends; a last line without its end is none of them
+unfoldable pub whole_lines : Bytes → List Bytes
+whole_lines [] = []
+whole_lines (b ∷ bs) = cond (b == 10) ([] ∷ whole_lines bs) (in_front_of_first b (whole_lines bs))
+
+-- a last line has no end
+abbrev pub is_torn : Bytes → Bool
+is_torn text = nat_lt (length (whole_lines text)) (length (lines text))
 
 abbrev pub lines_left : Lines → List Bytes
 lines_left s = lines s.rest.now

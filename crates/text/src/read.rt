@@ -1,8 +1,8 @@
 // Readers of bytes: lines, words and numbers. A reader answers what it read and what is left.
-ghost use Rattle.std.specs.Prelude.{◌≡◌, ℕ, Bool, ◌<◌, [], ◌∷◌, length, MatchOption, nat_eq, slice_index};
+ghost use Rattle.std.specs.Prelude.{◌≡◌, ℕ, Bool, ◌<◌, ◌≤◌, [], ◌∷◌, length, take, drop, MatchOption, nat_eq, slice_index};
 ghost use Rattle.std.specs.Iterator.{YieldsFirstRef, at_most};
 ghost use Rattle.std.specs.Str.{bytes_eq};
-ghost use Rattle.text.specs.Text.{Computes, before, digit, from, lines, lines_left, words};
+ghost use Rattle.text.specs.Text.{Computes, before, digit, from, lines, lines_left, whole_lines, words};
 ghost use Rattle.text.specs.Text as spec;
 
 fn is_blank(byte: u8) -> bool
@@ -58,6 +58,25 @@ impl<'a> Iterator for Lines<'a> {
         self.rest = rest;
         Some(line)
     }
+}
+
+// How many bytes of a text are whole lines: a last line without its end is none.
+#[tactic(auto, using(crate::proofs::Wholes::none_behind, crate::proofs::Wholes::wholes))]
+pub fn whole(text: &[u8]) -> usize
+    ensures within { result ≤ length text.now }
+    ensures lines { lines (take result text.now) ≡ whole_lines text.now }
+    ensures rest { whole_lines (drop result text.now) ≡ [] }
+{
+    text.iter()
+        .rposition(|byte| *byte == b'\n')
+        .map_or(0, |at| at + 1)
+}
+
+// Whether the last line has no end.
+pub fn is_torn(text: &[u8]) -> bool
+    ensures { result ≡ spec.is_torn text.now }
+{
+    text.last().is_some_and(|byte| *byte != b'\n')
 }
 
 // What stands before a comment.

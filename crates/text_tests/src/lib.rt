@@ -1,10 +1,10 @@
-// Bytes as hexadecimal text, and what is no such text.
+// Lines with their ends and without, bytes as hexadecimal text, and what is no such text.
 #![tactic(auto)]
 
 #[cfg(test)]
 mod tests {
     use std::test::Fail;
-    use text::{hex, unhex};
+    use text::{hex, is_torn, unhex, whole};
 
     const BAD: [(&str, &str); 5] = [
         ("0", "a hexadecimal digit stands alone"),
@@ -37,5 +37,23 @@ mod tests {
             assert!(rt; format!(in heap; "{error}")?.as_str() == told, "{}", word);
         }
         Ok(())
+    }
+
+    // A text, how many of its bytes are whole lines, and whether its last line has no end.
+    const TEXTS: [(&str, usize, bool); 6] = [
+        ("", 0, false),
+        ("\n", 1, false),
+        ("ab", 0, true),
+        ("ab\n", 3, false),
+        ("ab\n\nc", 4, true),
+        ("ab\n ", 3, true),
+    ];
+
+    #[test]
+    fn whole_lines_have_their_ends(rt: HostRuntime) {
+        for (text, bytes, torn) in TEXTS {
+            assert!(rt; whole(text.as_bytes()) == bytes, "{}", text);
+            assert!(rt; is_torn(text.as_bytes()) == torn, "{}", text);
+        }
     }
 }

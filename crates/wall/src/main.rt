@@ -6,6 +6,7 @@ use std::alloc::{AllocError, Global};
 use std::io::Read;
 use std::process::ExitCode;
 use std::{env, fmt, fs, io};
+use text::is_torn;
 use thiserror::Error;
 use wall_reader::{
     ChartMistake, Complaint, Form, Mark, Misuse, WallMistake, chart, chosen, csv_text, parse_words,
@@ -25,6 +26,9 @@ and prints each hour and place once, in order.
   --chart       a bar for each hour of one place
   --help        this text
 ";
+
+// Said beside the rows: a station may be writing that line.
+const TORN: &str = "the last line has no end, so it is no row yet: it is left out";
 
 #[derive(Debug, Drop, Error)]
 enum Failure {
@@ -71,10 +75,18 @@ fn run(rt: &HostRuntime) -> Result<(), Failure> {
     };
     let rows = wall_reader::read(heap, text.as_str())?;
     let some = chosen(heap, rows.as_slice(), &request.filter)?;
-    let shown = match request.form {
-        Form::Rows => rows_text(heap, some.as_slice())?,
-        Form::Csv => csv_text(heap, some.as_slice())?,
-        Form::Chart => return print_chart(rt, some.as_slice()),
+    print_rows(rt, some.as_slice(), request.form)?;
+    if is_torn(text.as_bytes()) {
+        let _ = eprintln!(rt; "wall: {TORN}");
+    }
+    Ok(())
+}
+
+fn print_rows(rt: &HostRuntime, rows: &[Row], form: Form) -> Result<(), Failure> {
+    let shown = match form {
+        Form::Rows => rows_text(rt.alloc(), rows)?,
+        Form::Csv => csv_text(rt.alloc(), rows)?,
+        Form::Chart => return print_chart(rt, rows),
     };
     Ok(print!(rt; "{shown}")?)
 }

@@ -7,7 +7,7 @@ use Rattle.sums.specs.Sums.{every, ToldSum}
 use Rattle.sums.proofs.Everys.{every_last}
 use Rattle.rows.specs.declared.Row.{Row}
 use Rattle.rows.specs.Walls.{as_told, rows_of, pair_cmp}
-use Rattle.text.specs.Text.{Bytes, lines}
+use Rattle.text.specs.Text.{Bytes, whole_lines}
 use Rattle.wall_reader.specs.declared.mistake.Reason.{Reason}
 use Rattle.wall_reader.specs.declared.mistake.WallMistake.{WallMistake}
 use Rattle.wall_reader.specs.declared.mistake.WallMistake.TheVariants.{Line, Contradiction, Memory}
@@ -70,31 +70,31 @@ module _ (ls : List Bytes) (n : ℕ) (m : BTreeMap (ℕ × ℕ) ℕ) (so : SoFar
     here = ap (λ k. row_on (get_or ls k [])) (sym back) ∙ ap row_on line_is
 
 -- a line that is refused
-module _ (text : Bytes) (n : ℕ) (m : BTreeMap (ℕ × ℕ) ℕ) (so : SoFar (lines text) n m) where
-  pub stopped : {Y : Type 0} (l : Bytes) (after : List Bytes) → drop n (lines text) ≡ l ∷ after → (p : BTreeMap (ℕ × ℕ) ℕ) (e : WallMistake) → LineTaken (n + 1) l m p (Err e) →
+module _ (text : Bytes) (n : ℕ) (m : BTreeMap (ℕ × ℕ) ℕ) (so : SoFar (whole_lines text) n m) where
+  pub stopped : {Y : Type 0} (l : Bytes) (after : List Bytes) → drop n (whole_lines text) ≡ l ∷ after → (p : BTreeMap (ℕ × ℕ) ℕ) (e : WallMistake) → LineTaken (n + 1) l m p (Err e) →
       (r : Result (Vec Row Y) WallMistake) → r ≡ Err e → ReadSays text r
   stopped l after cut p (Line k e) (is, why) r eq =
       subst (ReadSays text) (sym eq)
-      (subst (λ j. NoRow (lines text) j e) (sym is) (record { place = above (lines text) n m so l after cut; why = here (lines text) n m so l after cut ∙ why }))
+      (subst (λ j. NoRow (whole_lines text) j e) (sym is) (record { place = above (whole_lines text) n m so l after cut; why = here (whole_lines text) n m so l after cut ∙ why }))
   stopped l after cut p (Contradiction k h q first second) (row, says, against) r eq =
       subst (ReadSays text) (sym eq)
-      (subst (λ j. Contradicted (lines text) j h q first second) (sym against.number) (record {
-        place = above (lines text) n m so l after cut;
-        here = here (lines text) n m so l after cut ∙ says ∙ ap Ok against.row;
-        above = subst (λ j. stands (rows_on (take j (lines text))) (record { hour = h; place = q; sum = first }) ≡ true) (back (lines text) n m so) (against.above (rows_on (take n (lines text))) so.held);
+      (subst (λ j. Contradicted (whole_lines text) j h q first second) (sym against.number) (record {
+        place = above (whole_lines text) n m so l after cut;
+        here = here (whole_lines text) n m so l after cut ∙ says ∙ ap Ok against.row;
+        above = subst (λ j. stands (rows_on (take j (whole_lines text))) (record { hour = h; place = q; sum = first }) ≡ true) (back (whole_lines text) n m so) (against.above (rows_on (take n (whole_lines text))) so.held);
         other = against.other;
       }))
   stopped l after cut p Memory h r eq = subst (ReadSays text) (sym eq) tt
 
   -- no line is left
-  pub all_read : drop n (lines text) ≡ [] → (ts : List ToldSum) → ts ≡ rows_of m → TableOf (lines text) ts
+  pub all_read : drop n (whole_lines text) ≡ [] → (ts : List ToldSum) → ts ≡ rows_of m → TableOf (whole_lines text) ts
   all_read none ts is =
-      let few : length (lines text) ≤ n = omega (arith, length-drop n (lines text), ap length none) in
-      let whole : take n (lines text) ≡ lines text = take_all n (lines text) few in
-      let held : Holds (rows_on (lines text)) m = subst (λ ls. Holds (rows_on ls) m) whole so.held in
-      subst (TableOf (lines text)) (sym is) (record {
-        good = subst Good whole (good_so (lines text) n m so);
-        all = held_all (rows_on (lines text)) m held;
-        only = held_only (rows_on (lines text)) m held;
-        ordered = held_order (rows_on (lines text)) m held;
+      let few : length (whole_lines text) ≤ n = omega (arith, length-drop n (whole_lines text), ap length none) in
+      let whole : take n (whole_lines text) ≡ whole_lines text = take_all n (whole_lines text) few in
+      let held : Holds (rows_on (whole_lines text)) m = subst (λ ls. Holds (rows_on ls) m) whole so.held in
+      subst (TableOf (whole_lines text)) (sym is) (record {
+        good = subst Good whole (good_so (whole_lines text) n m so);
+        all = held_all (rows_on (whole_lines text)) m held;
+        only = held_only (rows_on (whole_lines text)) m held;
+        ordered = held_order (rows_on (whole_lines text)) m held;
       })

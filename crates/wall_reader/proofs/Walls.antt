@@ -1,9 +1,9 @@
 -- Rows of the code, one after the other. Assumes nothing.
-use Rattle.std.proofs.Common.{◌≡◌, ℕ, zero, suc, ◌+◌, ◌<◌, Bool, true, false, cond, not, eqb, ◌&&◌, Some, None, refl, List, [], ◌∷◌, length, get_or, drop, sym, ap, ◌∙◌, arith}
+use Rattle.std.proofs.Common.{◌≡◌, ℕ, ◌+◌, ◌<◌, Bool, true, false, cond, not, eqb, ◌&&◌, Some, None, refl, List, [], ◌∷◌, length, get_or, drop, sym, ap, ◌∙◌, arith}
 use Rattle.std.specs.List.{find}
 use Rattle.std.proofs.lemmas.Bool.{eq-eqb}
 use Rattle.std.proofs.lemmas.List.{drop_more}
-use Rattle.sums.specs.Sums.{any, every, each, or, ToldSum}
+use Rattle.sums.specs.Sums.{any, every, each, or}
 use Rattle.sums.proofs.Everys.{or_true}
 use Rattle.rows.specs.declared.Row.{Row}
 use Rattle.rows.specs.Walls.{as_told, as_wall}

@@ -4,3 +4,4 @@ pub mod Filters
 pub mod Charts
 pub mod Requests
 pub mod Shown
+pub mod Worked

@@ -5,7 +5,7 @@ use Rattle.std.specs.BTreeMap.{IsOrdered, get}
 use Rattle.sums.specs.Sums.{any, every, or, ToldSum}
 use Rattle.rows.specs.declared.Row.{Row}
 use Rattle.rows.specs.Walls.{as_told, as_wall, in_order, pair_cmp, JustWhen}
-use Rattle.text.specs.Text.{Bytes, lines}
+use Rattle.text.specs.Text.{Bytes, whole_lines}
 use Rattle.wall_reader.specs.declared.mistake.Reason.{Reason}
 use Rattle.wall_reader.specs.declared.mistake.WallMistake.{WallMistake}
 use Rattle.wall_reader.specs.declared.mistake.WallMistake.TheVariants.{Line, Contradiction, Memory}
@@ -63,10 +63,11 @@ pub record Contradicted (ls : List Bytes) (n h k first second : ℕ) : Type 0 wh
   pub above : stands (rows_on (take (n - 1) ls)) (record { hour = h; place = k; sum = first }) ≡ true
   pub other : nat_eq first second ≡ false
 
+-- a last line without its end is no row yet
 abbrev pub ReadSays : {Z : Type 0} → Bytes → Result (Vec Row Z) WallMistake → Type 0
-ReadSays text (Ok v) = TableOf (lines text) (as_wall (vec_items v))
-ReadSays text (Err (Line n e)) = NoRow (lines text) n e
-ReadSays text (Err (Contradiction n h k first second)) = Contradicted (lines text) n h k first second
+ReadSays text (Ok v) = TableOf (whole_lines text) (as_wall (vec_items v))
+ReadSays text (Err (Line n e)) = NoRow (whole_lines text) n e
+ReadSays text (Err (Contradiction n h k first second)) = Contradicted (whole_lines text) n h k first second
 ReadSays text (Err Memory) = Unit {0}
 
 -- the map is in order, and has just the rows that stand among these

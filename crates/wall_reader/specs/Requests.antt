@@ -1,13 +1,14 @@
 -- What the words behind the program's name ask for. Assumes nothing: these are definitions.
-use Rattle.std.specs.Prelude.{ℕ, ◌+◌, ◌-◌, true, false, cond, List, [], ◌∷◌, drop, Some, None, Ok, Err, codes, Option, Result, ◌==◌, nat_eq, slice_index}
+use Rattle.std.specs.Prelude.{ℕ, ◌+◌, ◌-◌, Bool, true, false, cond, List, [], ◌∷◌, drop, is_some, Some, None, Ok, Err, codes, Option, Result, ◌==◌, nat_eq, nat_lt, slice_index}
 use Rattle.std.specs.Str.{bytes_eq}
 use Rattle.text.specs.Text.{Bytes, before, from, decimal}
 use Rattle.wall_reader.specs.declared.asked.Filter.{Filter}
 use Rattle.wall_reader.specs.declared.asked.Hours.{Hours}
 use Rattle.wall_reader.specs.declared.words.Request.{Request}
 use Rattle.wall_reader.specs.declared.words.Complaint.{Complaint}
-use Rattle.wall_reader.specs.declared.words.Complaint.TheVariants.{NoSuchOption, NoValue, NotANumber, NotHours, SecondFile}
+use Rattle.wall_reader.specs.declared.words.Complaint.TheVariants.{NoSuchOption, NoValue, NotANumber, NotHours, NoHours, SecondOption, SecondForm, SecondFile}
 use Rattle.wall_reader.specs.declared.words.Draft.{Draft}
+use Rattle.wall_reader.specs.declared.words.Form.{Form}
 use Rattle.wall_reader.specs.declared.words.Form.TheVariants as form
 use Rattle.wall_reader.specs.declared.words.Kind.{Kind}
 use Rattle.wall_reader.specs.declared.words.Kind.TheVariants as kind
@@ -29,7 +30,7 @@ kind_of w =
 abbrev pub hours_between : Option ℕ → Option ℕ → Result Hours Complaint
 hours_between None b = Err NotHours
 hours_between (Some a) None = Err NotHours
-hours_between (Some a) (Some b) = Ok (record { from = a; to = b })
+hours_between (Some a) (Some b) = cond (nat_lt a b) (Ok (record { from = a; to = b })) (Err NoHours)
 
 -- a number before the first dot, and one behind the second, which follows at once
 abbrev pub hours_at : Bytes → Bytes → Result Hours Complaint
@@ -60,15 +61,32 @@ valued valued_option.Hour f w = with_hour f (number_of (decimal w))
 valued valued_option.Hours f w = with_hours f (hours_of w)
 valued valued_option.Place f w = with_place f (number_of (decimal w))
 
+-- the filter has a value of this option
+abbrev pub is_given : Valued → Filter → Bool
+is_given valued_option.Hour f = is_some f.hour
+is_given valued_option.Hours f = is_some f.hours
+is_given valued_option.Place f = is_some f.place
+
+-- an option whose value is to follow, which is not given yet
+abbrev pub option_taken : Draft → Valued → Bool → Result Draft Complaint
+option_taken d o true = Err SecondOption
+option_taken d o false = Ok (record { request = d.request; waits = Some o })
+
+-- how rows are shown, where nothing of it is said yet
+abbrev pub form_taken : Draft → (f said : Form) → Result Draft Complaint
+form_taken d f form.Rows = Ok (record { request = record { file = d.request.file; filter = d.request.filter; form = f; help = d.request.help }; waits = d.waits })
+form_taken d f form.Csv = Err SecondForm
+form_taken d f form.Chart = Err SecondForm
+
 abbrev pub file_taken : Draft → ℕ → Option ℕ → Result Draft Complaint
 file_taken d at None = Ok (record { request = record { file = Some at; filter = d.request.filter; form = d.request.form; help = d.request.help }; waits = d.waits })
 file_taken d at (Some other) = Err SecondFile
 
 -- a word that is no value
 abbrev pub plain_taken : Draft → ℕ → Kind → Result Draft Complaint
-plain_taken d at (kind.Valued o) = Ok (record { request = d.request; waits = Some o })
-plain_taken d at kind.Csv = Ok (record { request = record { file = d.request.file; filter = d.request.filter; form = form.Csv; help = d.request.help }; waits = d.waits })
-plain_taken d at kind.Chart = Ok (record { request = record { file = d.request.file; filter = d.request.filter; form = form.Chart; help = d.request.help }; waits = d.waits })
+plain_taken d at (kind.Valued o) = option_taken d o (is_given o d.request.filter)
+plain_taken d at kind.Csv = form_taken d form.Csv d.request.form
+plain_taken d at kind.Chart = form_taken d form.Chart d.request.form
 plain_taken d at kind.Help = Ok (record { request = record { file = d.request.file; filter = d.request.filter; form = d.request.form; help = true }; waits = d.waits })
 plain_taken d at kind.Unknown = Err NoSuchOption
 plain_taken d at kind.File = file_taken d at d.request.file

@@ -1,5 +1,5 @@
 // A chart of the rows of one place: a bar for each hour.
-ghost use Rattle.std.specs.Prelude.{◌≡◌, ◌≤◌};
+ghost use Rattle.std.specs.Prelude.{◌≡◌, ℕ, ◌<◌, ◌≤◌};
 ghost use Rattle.rows.specs.Walls.{as_wall};
 ghost use Rattle.wall_reader.specs.declared.bars.ChartMistake.TheVariants.{Memory as NoMemory};
 ghost use Rattle.wall_reader.specs.Charts.{PlaceSays, ChartSays, bar_of, is_gap, greatest_of};
@@ -39,10 +39,13 @@ impl<T: Drop> From<AllocFailed<T>> for ChartMistake {
     }
 }
 
-// How long the bar of a sum is where the greatest sum's is as long as the width.
+// How long the bar of a sum is where the greatest sum's is as long as the width: in proportion, rounded down.
 pub fn bar(sum: u64, greatest: u64, width: u64) -> u64
     ensures length { result ≡ bar_of sum greatest width }
     ensures within { result ≤ width }
+    ensures full { 0 < greatest → greatest ≤ sum → result ≡ width }
+    ensures none { sum ≡ 0 → result ≡ 0 }
+    ensures grows { (less : ℕ) → less ≤ sum → bar_of less greatest width ≤ result }
 {
     if greatest == 0 {
         return 0;

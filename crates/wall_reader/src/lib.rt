@@ -15,4 +15,4 @@ pub use line::{print_and_read, read_row};
 pub use mistake::{Reason, WallMistake};
 pub use reader::read;
 pub use shown::{csv_text, rows_text};
-pub use words::{Complaint, Form, Misuse, Request, parse_words};
+pub use words::{Complaint, Form, Misuse, Request, parse_words, worked_requests};

@@ -6,7 +6,7 @@ use crate::mistake::WallMistake;
 use rows::{Row, Sums, listed};
 use std::alloc::Global;
 use std::collections::BTreeMap;
-use text::Lines;
+use text::{Lines, whole};
 
 // A row more, of the line with this number.
 fn take_row(sums: &mut Sums, line: u64, row: Row) -> Result<(), WallMistake>
@@ -39,11 +39,13 @@ fn take_line(sums: &mut Sums, number: u64, line: &[u8]) -> Result<(), WallMistak
 }
 
 // The rows of a wall, each once, by hour and place; or the first line that is no row or contradicts one above it.
+// A last line without its end is left out.
 pub fn read(heap: Global, text: &str) -> Result<Vec<Row>, WallMistake>
     ensures { ReadSays text.now result }
 {
+    let bytes = text.as_bytes();
     let mut sums = BTreeMap::new(heap);
-    for (index, line) in Lines::new(text.as_bytes()).enumerate() {
+    for (index, line) in Lines::new(&bytes[..whole(bytes)]).enumerate() {
         take_line(&mut sums, index as u64 + 1, line)?;
     }
     Ok(listed(heap, &sums)?)

@@ -2,7 +2,8 @@
 ghost use Rattle.std.specs.Prelude.{◌≡◌, string_bytes, ◌==◌, slice_index};
 ghost use Rattle.sums.specs.Sums.{each};
 ghost use Rattle.text.specs.Text.{decimal as decimal_of};
-ghost use Rattle.wall_reader.specs.Requests.{kind_of, hours_of, number_of, valued, plain_taken, word_taken, asked_by};
+ghost use Rattle.wall_reader.specs.Requests.{is_given, kind_of, hours_of, number_of, valued, plain_taken, word_taken, asked_by};
+ghost use Rattle.wall_reader.specs.Worked.{WorkedRequests};
 
 use crate::asked::{Filter, Hours};
 use text::{decimal, until_dot};
@@ -36,6 +37,13 @@ pub enum Complaint {
     NotANumber,
     #[error("hours are two numbers below 2^64, as 3..12")]
     NotHours,
+    // The first hour is not below the second.
+    #[error("no hours are from the first up to the second")]
+    NoHours,
+    #[error("this option is given already")]
+    SecondOption,
+    #[error("--csv or --chart is given already")]
+    SecondForm,
     #[error("a file is named already")]
     SecondFile,
 }
@@ -93,6 +101,9 @@ fn hours_of(word: &[u8]) -> Result<Hours, Complaint>
     let (Some(from), Some(to)) = (decimal(front), decimal(end)) else {
         return Err(Complaint::NotHours);
     };
+    if from >= to {
+        return Err(Complaint::NoHours);
+    }
     Ok(Hours { from, to })
 }
 
@@ -103,6 +114,17 @@ fn number_of(word: &[u8]) -> Result<u64, Complaint>
 }
 
 impl Valued {
+    // Whether the filter has its value.
+    fn is_given(self, filter: &Filter) -> bool
+        ensures { result ≡ is_given self filter.now }
+    {
+        match self {
+            Valued::Hour => filter.hour.is_some(),
+            Valued::Hours => filter.hours.is_some(),
+            Valued::Place => filter.place.is_some(),
+        }
+    }
+
     // The filter with this option's value.
     fn put(self, filter: Filter, word: &[u8]) -> Result<Filter, Complaint>
         ensures { result ≡ valued self filter word.now }
@@ -138,7 +160,13 @@ impl Draft {
     {
         let request = &mut self.request;
         match Kind::of(word) {
+            Kind::Valued(option) if option.is_given(&request.filter) => {
+                return Err(Complaint::SecondOption);
+            }
             Kind::Valued(option) => self.waits = Some(option),
+            Kind::Csv | Kind::Chart if request.form != Form::Rows => {
+                return Err(Complaint::SecondForm);
+            }
             Kind::Csv => request.form = Form::Csv,
             Kind::Chart => request.form = Form::Chart,
             Kind::Help => request.help = true,
@@ -195,3 +223,8 @@ pub fn parse_words(words: &[String]) -> Result<Request, Misuse>
         }),
     }
 }
+
+// Theorem: what a few lists of words ask for, worked out by hand.
+pub fn worked_requests()
+    ensures { WorkedRequests }
+{}

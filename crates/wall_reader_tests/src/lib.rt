@@ -12,53 +12,56 @@ mod tests {
 
     // A text, and what is said of it.
     const BAD: [(&str, &str); 13] = [
-        ("\nhour 1 place 2: 3", "line 1: this line is blank"),
+        ("\nhour 1 place 2: 3\n", "line 1: this line is blank"),
         ("hour 1 place 2: 3\n \t\r\n", "line 2: this line is blank"),
         (
-            "hour 1 place 2:",
+            "hour 1 place 2:\n",
             "line 1: a row is `hour H place P: S`, and here are too few words",
         ),
         (
-            "hour 1 place 2 : 3",
+            "hour 1 place 2 : 3\n",
             "line 1: a row is `hour H place P: S`, and here are too many words",
         ),
         (
-            "hour 1 place 2: 3 # told twice",
+            "hour 1 place 2: 3 # told twice\n",
             "line 1: a row is `hour H place P: S`, and here are too many words",
         ),
-        ("hours 1 place 2: 3", "line 1: the first word is not `hour`"),
         (
-            "hour one place 2: 3",
+            "hours 1 place 2: 3\n",
+            "line 1: the first word is not `hour`",
+        ),
+        (
+            "hour one place 2: 3\n",
             "line 1: the hour is not a number below 2^64",
         ),
         (
-            "hour 1 place 2: 3\nhour 1 plaice 2: 3",
+            "hour 1 place 2: 3\nhour 1 plaice 2: 3\n",
             "line 2: the third word is not `place`",
         ),
         (
-            "hour 1 place 2 3",
+            "hour 1 place 2 3\n",
             "line 1: the place is not a number below 2^64 and a colon",
         ),
         (
-            "hour 1 place : 3",
+            "hour 1 place : 3\n",
             "line 1: the place is not a number below 2^64 and a colon",
         ),
         (
-            "hour 1 place 2: 18446744073709551616",
+            "hour 1 place 2: 18446744073709551616\n",
             "line 1: the sum is not a number below 2^64",
         ),
         (
-            "hour 1 place 2: 3\nhour 2 place 2: 4\nhour 1 place 2: 5\nhour",
+            "hour 1 place 2: 3\nhour 2 place 2: 4\nhour 1 place 2: 5\nhour\n",
             "line 3: hour 1 place 2 is 5 here and 3 above",
         ),
         (
-            "hour 1 place 2: 3\nhour 1 place 2: 3\nhour 1 place 2: 5",
+            "hour 1 place 2: 3\nhour 1 place 2: 3\nhour 1 place 2: 5\n",
             "line 3: hour 1 place 2 is 5 here and 3 above",
         ),
     ];
 
     const WALL: &str =
-        "hour 9 place 1: 12\r\nhour 3 place 2: 7\n hour  12 place 1: 40\nhour 9 place 1: 12\nhour 9 place 0: 26\nhour 8 place 1: 80";
+        "hour 9 place 1: 12\r\nhour 3 place 2: 7\n hour  12 place 1: 40\nhour 9 place 1: 12\nhour 9 place 0: 26\nhour 8 place 1: 80\n";
 
     #[test]
     fn mistakes_are_told(rt: HostRuntime) -> Result<(), Fail> {
@@ -68,6 +71,32 @@ mod tests {
                 return Err(Fail::new(text));
             };
             assert!(rt; format!(in heap; "{mistake}")?.as_str() == told, "{}", text);
+        }
+        Ok(())
+    }
+
+    // A row torn in its sum, in a word and in a blank, one that would contradict, and one that lacks its end alone.
+    const TORN: [&str; 5] = [
+        "hour 3 place 1023: 42949",
+        "hour 3 pla",
+        "hour 3 ",
+        "hour 1 place 2: 4",
+        "hour 3 place 1023: 4294967295",
+    ];
+
+    #[test]
+    fn a_last_line_without_its_end_is_left_out(rt: HostRuntime) -> Result<(), Fail> {
+        let heap = rt.alloc();
+        for torn in TORN {
+            let text = format!(in heap; "hour 1 place 2: 40\n{torn}")?;
+            let Ok(rows) = read(heap, text.as_str()) else {
+                return Err(Fail::new(torn));
+            };
+            assert!(rt;
+                rows_text(heap, rows.as_slice())?.as_str() == "hour 1 place 2: 40\n",
+                "{}",
+                torn
+            );
         }
         Ok(())
     }
@@ -202,7 +231,7 @@ mod tests {
     }
 
     // Words, the one that is wrong, and what is said of it.
-    const MISUSED: [(&str, usize, &str); 8] = [
+    const MISUSED: [(&str, usize, &str); 13] = [
         ("--frob", 0, "there is no such option"),
         ("-", 0, "there is no such option"),
         ("a --csv b", 2, "a file is named already"),
@@ -215,6 +244,19 @@ mod tests {
             1,
             "hours are two numbers below 2^64, as 3..12",
         ),
+        (
+            "--hours 9..3",
+            1,
+            "no hours are from the first up to the second",
+        ),
+        (
+            "--hours 3..3",
+            1,
+            "no hours are from the first up to the second",
+        ),
+        ("--hour 3 a --hour 3", 3, "this option is given already"),
+        ("--csv --chart", 1, "--csv or --chart is given already"),
+        ("--chart --chart", 1, "--csv or --chart is given already"),
     ];
 
     #[test]
@@ -238,7 +280,7 @@ mod tests {
     #[test]
     fn words_are_read(rt: HostRuntime) -> Result<(), Fail> {
         let heap = rt.alloc();
-        let line = "--hours 3..12 wall.txt --place 4 --hour 5 --csv --help --chart";
+        let line = "--hours 3..12 wall.txt --place 4 --hour 5 --chart --help";
         let Ok(request) = parse_words(words(heap, line)?.as_slice()) else {
             return Err(Fail::new(line));
         };

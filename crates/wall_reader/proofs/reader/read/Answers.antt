@@ -2,7 +2,7 @@ use Rattle.std.proofs.Common.{◌+◌, Err, vec_items, sym, subst, ap, ◌∙◌
 use Rattle.std.proofs.lemmas.Result.{err_from_is_err_and}
 use Rattle.std.specs.Iterator.Adapters.{enumerate_count}
 use Rattle.rows.specs.Walls.{as_wall}
-use Rattle.text.specs.Text.{lines}
+use Rattle.text.specs.Text.{whole_lines}
 use Rattle.wall_reader.specs.Reads.{LineTaken}
 use Rattle.wall_reader.proofs.Reading.{at_first, left, one_more, stopped, all_read}
 use Rattle.wall_reader.proofs.reader.read.Goals as goal
@@ -11,7 +11,7 @@ pub loop-index-init : goal.loop-index-init
 loop-index-init c =
     let begun = c.enumerate-index-items.ensures in
     rw (c.into_iter-index-iterator.ensures.into_iter_gives, begun.source, begun.count)
-    (sym (c.new.ensures ∙ ap lines c.as_bytes.ensures.value), at_first (lines c.args.text.now) c.new-sums.result c.new-sums.ensures.empty c.new-sums.ensures.ordered)
+    (sym (c.new.ensures ∙ c.whole.ensures.lines ∙ ap whole_lines c.as_bytes-bytes.ensures.value), at_first (whole_lines c.args.text.now) c.new-sums.result c.new-sums.ensures.empty c.new-sums.ensures.ordered)
 
 pub returns-in_err-take_line : goal.returns-in_err-take_line
 returns-in_err-take_line c =
@@ -28,7 +28,7 @@ pub loop-index-preserved : goal.loop-index-preserved
 loop-index-preserved c =
     let so = c.loop-index.invariant in
     let steps = c.in-Some.ensures.steps in
-    let ls = lines c.args.text.now in
+    let ls = whole_lines c.args.text.now in
     let n = enumerate_count c.loop-index.index-iterator in
     let cut = so.0 ∙ steps.0 in
     rw steps.2 (
