@@ -198,13 +198,17 @@ mod tests {
         Ok(command_of(heap, words.as_slice()))
     }
 
-    const BAD: [(&str, ArgsError); 13] = [
+    const BAD: [(&str, ArgsError); 17] = [
         ("play", ArgsError::NoFile),
         ("play a --fast", ArgsError::UnknownOption),
         ("play a --stats b", ArgsError::TooManyWords),
+        ("a b", ArgsError::UnknownOption),
+        ("a --stats b", ArgsError::TooManyWords),
+        ("--stats", ArgsError::UnknownOption),
         ("random", ArgsError::NoSeed),
         ("random 1", ArgsError::NoRivers),
         ("random x 1", ArgsError::SeedNoNumber),
+        ("random +1 2", ArgsError::SeedNoNumber),
         ("random 1 -1", ArgsError::RiversNoNumber),
         ("random 1 2 3", ArgsError::TooManyWords),
         ("strike", ArgsError::NoFile),
@@ -246,6 +250,7 @@ mod tests {
             ("play a --stats", "play a true"),
             ("", "play - false"),
             ("a", "play a false"),
+            ("a --stats", "play a true"),
             ("random 3 40", "random 3 40"),
             ("strike a", "strike a One"),
             ("strike a 1", "strike a One"),

@@ -1,10 +1,17 @@
 // What the player is asked to do, by the words of its command line.
 #![tactic(auto)]
 
+ghost use Rattle.std.specs.Prelude.{◌≡◌, map, string_bytes};
+ghost use Rattle.player_args.specs.Asked.{Answers, asked, play_of, random_of, strike_of, strokes_of, sums_of};
+ghost use Rattle.player_args.specs.Back.{CommandsBack};
+ghost use Rattle.player_args.specs.Worked.{WorkedCommands};
+ghost use Rattle.player_args.specs.declared.ArgsError.TheVariants.{Memory};
+
 use std::alloc::{AllocError, Global};
 use std::error::Error;
 use std::fmt;
 use std::str::FromStr;
+use text::decimal;
 
 pub const USAGE: &str = "usage: player COMMAND
 
@@ -12,7 +19,7 @@ pub const USAGE: &str = "usage: player COMMAND
   random SEED RIVERS       play so many rivers made at random, the first from SEED
   strike FILE [1|2]        play a river struck after every act, once or twice in a row
   sums FILE                play nothing: the rows that are to be told, added up at once
-  FILE                     the same as play FILE; with no word at all, as play -
+  FILE [--stats]           the same behind play; with no word at all, as play -
   --help                   this text
 
 FILE may be - for standard input. The status is 1 where a river is not played right.";
@@ -66,7 +73,10 @@ impl fmt::Display for ArgsError {
 
 impl Error for ArgsError {}
 
+// By hand, as a clause names the error that `?` makes.
 impl From<AllocError> for ArgsError {
+    ghost from_gives = { λ _ r. r ≡ Memory };
+
     fn from(_e: AllocError) -> ArgsError {
         ArgsError::Memory
     }
@@ -74,6 +84,8 @@ impl From<AllocError> for ArgsError {
 
 impl FromStr for Strokes {
     type Err = ArgsError;
+
+    ghost from_str_gives = { λ word r. r ≡ strokes_of word };
 
     fn from_str(word: &str) -> Result<Strokes, ArgsError> {
         match word {
@@ -84,7 +96,9 @@ impl FromStr for Strokes {
     }
 }
 
-fn play_command(words: &[String]) -> Result<Command, ArgsError> {
+fn play_command(words: &[String]) -> Result<Command, ArgsError>
+    ensures { Answers (play_of (map string_bytes words.now)) result }
+{
     let (file, rest) = words.split_first().ok_or(ArgsError::NoFile)?;
     let stats = match rest {
         [] => false,
@@ -96,7 +110,9 @@ fn play_command(words: &[String]) -> Result<Command, ArgsError> {
     Ok(Command::Play { file, stats })
 }
 
-fn random_command(words: &[String]) -> Result<Command, ArgsError> {
+fn random_command(words: &[String]) -> Result<Command, ArgsError>
+    ensures { Answers (random_of (map string_bytes words.now)) result }
+{
     let [seed, rivers] = words else {
         return Err(match words.len() {
             0 => ArgsError::NoSeed,
@@ -104,15 +120,14 @@ fn random_command(words: &[String]) -> Result<Command, ArgsError> {
             _ => ArgsError::TooManyWords,
         });
     };
-    let seed = seed.as_str().parse().map_err(|_| ArgsError::SeedNoNumber)?;
-    let rivers = rivers
-        .as_str()
-        .parse()
-        .map_err(|_| ArgsError::RiversNoNumber)?;
+    let seed = decimal(seed.as_bytes()).ok_or(ArgsError::SeedNoNumber)?;
+    let rivers = decimal(rivers.as_bytes()).ok_or(ArgsError::RiversNoNumber)?;
     Ok(Command::Random { seed, rivers })
 }
 
-fn strike_command(words: &[String]) -> Result<Command, ArgsError> {
+fn strike_command(words: &[String]) -> Result<Command, ArgsError>
+    ensures { Answers (strike_of (map string_bytes words.now)) result }
+{
     let (file, rest) = words.split_first().ok_or(ArgsError::NoFile)?;
     let strokes = match rest {
         [] => Strokes::One,
@@ -123,7 +138,9 @@ fn strike_command(words: &[String]) -> Result<Command, ArgsError> {
     Ok(Command::Strike { file, strokes })
 }
 
-fn sums_command(words: &[String]) -> Result<Command, ArgsError> {
+fn sums_command(words: &[String]) -> Result<Command, ArgsError>
+    ensures { Answers (sums_of (map string_bytes words.now)) result }
+{
     match words {
         [] => Err(ArgsError::NoFile),
         [file] => Ok(Command::Sums {
@@ -133,8 +150,10 @@ fn sums_command(words: &[String]) -> Result<Command, ArgsError> {
     }
 }
 
-// The command that the words behind the program's name give. A first word that is none is a river's file.
-pub fn command_of(heap: Global, words: &[String]) -> Result<Command, ArgsError> {
+// The command that the words behind the program's name give. A first word that is none is a river's file, unless it begins as an option does.
+pub fn command_of(heap: Global, words: &[String]) -> Result<Command, ArgsError>
+    ensures { Answers (asked (map string_bytes words.now)) result }
+{
     let [name, rest @ ..] = words else {
         return Ok(Command::Play {
             file: String::from_str(heap, "-")?,
@@ -147,9 +166,17 @@ pub fn command_of(heap: Global, words: &[String]) -> Result<Command, ArgsError> 
         "strike" => strike_command(rest),
         "sums" => sums_command(rest),
         "--help" | "-h" | "help" => Ok(Command::Help),
-        _ => Ok(Command::Play {
-            file: name.clone()?,
-            stats: false,
-        }),
+        word if word.starts_with("--") => Err(ArgsError::UnknownOption),
+        _ => play_command(words),
     }
 }
+
+// Theorem: every command can be asked for.
+pub fn commands_back()
+    ensures { CommandsBack }
+{}
+
+// Theorem: the command lines that are worked out by hand ask for just that.
+pub fn worked_commands()
+    ensures { WorkedCommands }
+{}

@@ -1,0 +1,3 @@
+pub mod Asked
+pub mod Back
+pub mod Worked
