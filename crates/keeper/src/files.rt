@@ -1,7 +1,7 @@
-// Files that a kill may have left as they were before, or with a last line that is not whole.
-ghost use Rattle.std.specs.Prelude.{◌≡◌, ◌≤◌, ◌++◌, length, codes, decimal as written, IfOk, Some, string_bytes};
+// What a station writes into its files, and what it reads there.
+ghost use Rattle.std.specs.Prelude.{◌≡◌, ◌++◌, codes, decimal as written, IfOk, Some, string_bytes};
 ghost use Rattle.text.specs.Text.{lines};
-ghost use Rattle.keeper.specs.Stations.{lone_line, NoEndFrom, EndsAt};
+ghost use Rattle.keeper.specs.Stations.{lone_line};
 
 use std::alloc::{AllocError, Global};
 use text::{decimal, first_line, first_word};
@@ -35,15 +35,4 @@ pub fn released_text(heap: Global, place: u64) -> Result<String, AllocError>
 {
     let text = format!(in heap; "{place}\n")?;
     Ok(text)
-}
-
-// How many bytes of a wall are whole rows: what follows the last end of a line was never a row.
-pub fn whole_rows(wall: &[u8]) -> usize
-    ensures within { result ≤ length wall.now }
-    ensures ends { EndsAt wall.now result }
-    ensures last { NoEndFrom wall.now result }
-{
-    wall.iter()
-        .rposition(|byte| *byte == b'\n')
-        .map_or(0, |at| at + 1)
 }

@@ -1,11 +1,11 @@
-// The wall as a file that only grows.
-use crate::files::whole_rows;
+// The wall as a file: rows are put behind those that it has.
 use anyhow::anyhow;
 use rows::Row;
 use std::fs::{File, OpenOptions};
 use std::io;
 use std::io::{Read, Write};
 use std::path::Path;
+use text::whole;
 
 #[derive(Drop)]
 pub struct Wall {
@@ -22,9 +22,9 @@ fn opened(rt: &HostRuntime, path: &str) -> io::Result<File> {
         .open(rt, path)?;
     let mut bytes = Vec::new(rt.alloc());
     file.read_to_end(&mut bytes)?;
-    let whole = whole_rows(bytes.as_slice());
-    if whole < bytes.len() {
-        file.set_len(whole as u64)?;
+    let end = whole(bytes.as_slice());
+    if end < bytes.len() {
+        file.set_len(end as u64)?;
     }
     file.sync_all()?;
     sync_folder(rt, path)?;
