@@ -136,23 +136,23 @@ mod tests {
         Ok(())
     }
 
-    // 513 times 1 to 8.
-    const LONG_WALL: &str = "hour 0 place 0: 513
-hour 0 place 1: 1026
-hour 0 place 2: 1539
-hour 0 place 3: 2052
-hour 0 place 4: 2565
-hour 0 place 5: 3078
-hour 0 place 6: 3591
-hour 0 place 7: 4104
+    // 1,026 times 1 to 8.
+    const LONG_WALL: &str = "hour 0 place 0: 1026
+hour 0 place 1: 2052
+hour 0 place 2: 3078
+hour 0 place 3: 4104
+hour 0 place 4: 5130
+hour 0 place 5: 6156
+hour 0 place 6: 7182
+hour 0 place 7: 8208
 ";
 
-    // An hour of more readings than the roll holds: 513 at each of 8 places, whose sums are on 8 different pages. A reading at place P is P + 1.
+    // An hour that fills the roll twice: 1,026 readings at each of 8 places, whose sums are on 8 different pages. A reading at place P is P + 1.
     fn long_options(rt: &HostRuntime, name: &str) -> Result<Options, Fail> {
         let options = options(rt, name)?;
         let mut river = String::new(rt.alloc());
         writeln!(river, "gauge 0")?;
-        for _ in 0..513 {
+        for _ in 0..1026 {
             for place in 0..8 {
                 writeln!(river, "0 {place} {}", place + 1)?;
             }
@@ -161,16 +161,17 @@ hour 0 place 7: 4104
         Ok(options)
     }
 
-    // Turns 4,102 to 4,109 keep the pages, 4,110 keeps the root, and 4,112 releases the first 4,096 readings.
+    // Turns 4,102 to 4,109 keep the pages, 4,110 keeps the root, and 4,112 releases the first 4,096 readings. Behind this root
+    // boot reads its pages too: turns 4,110 to 4,117 keep those of the other set, and 4,118 the next root.
     #[test]
-    fn let_go_while_a_checkpoint_is_kept(rt: HostRuntime) -> Result<(), Fail> {
-        for n in [4101, 4102, 4103, 4106, 4109, 4110, 4111, 4112] {
-            let name = format!(in rt.alloc(); "checkpoint-{n}")?;
-            let options = long_options(&rt, name.as_str())?;
+    fn let_go_while_checkpoints_are_kept(rt: HostRuntime) -> Result<(), Fail> {
+        let options = long_options(&rt, "checkpoints")?;
+        for n in [4102, 4106, 4109, 4110, 4109, 4114, 4117, 4118] {
             assert!(rt; !turns(&rt, &options, n)?);
-            assert!(rt; turns(&rt, &options, 10_000)?);
-            assert!(rt; fs::read_to_string(&rt, options.wall.as_str())?.as_str() == LONG_WALL);
+            assert!(rt; fs::read_to_string(&rt, options.wall.as_str())?.is_empty());
         }
+        assert!(rt; turns(&rt, &options, 10_000)?);
+        assert!(rt; fs::read_to_string(&rt, options.wall.as_str())?.as_str() == LONG_WALL);
         Ok(())
     }
 
