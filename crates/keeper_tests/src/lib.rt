@@ -34,7 +34,7 @@ mod tests {
         Ok(station.work(rt, turns)?)
     }
 
-    // How many rows of the wall are wrong or told again; none of the river's sums is missing.
+    // How many rows of the wall are told again; none is wrong, and none of the river's sums is missing.
     fn repeated(rt: &HostRuntime, options: &Options) -> Result<usize, Fail> {
         let heap = rt.alloc();
         let text = fs::read_to_string(rt, options.wall.as_str())?;
