@@ -1,9 +1,9 @@
 // Rivers played and judged, and what came of them added up.
-ghost use Rattle.std.specs.Prelude.{◌≡◌, true, IfOk, IfErr, vec_len};
+ghost use Rattle.std.specs.Prelude.{◌≡◌, true, IfOk, IfErr};
 ghost use Rattle.sums.specs.Sums.{pick, all_told, gauges_fine};
 ghost use Rattle.sums.specs.Readings.{as_gauges};
 ghost use Rattle.promise.specs.Promise.{core};
-ghost use Rattle.rows.specs.Walls.{TooMuch, wrong_rows, JustWhen};
+ghost use Rattle.rows.specs.Walls.{TooMuch};
 ghost use Rattle.world.specs.Worlds.{as_world};
 ghost use Rattle.play.specs.Plays.{unrolled, played};
 ghost use Rattle.play.specs.Trials.{all_right, both, readings_after, Scores};

@@ -1,5 +1,5 @@
 -- What happens, as the definitions have it, at the machine that stands for a hut.
-use Rattle.std.proofs.Common.{◌≡◌, ℕ, zero, suc, ◌+◌, ◌≤◌, Bool, true, false, List, [], ◌∷◌, length, Some, sym, refl, ap, ◌∙◌, add-one, arith}
+use Rattle.std.proofs.Common.{◌≡◌, ℕ, zero, suc, ◌≤◌, Bool, true, false, List, [], ◌∷◌, length, Some, sym, refl, ap, ◌∙◌, arith}
 use Rattle.std.proofs.lemmas.Bool.{both_ways}
 use Rattle.sums.specs.Sums.{each, none_of, Gauges}
 use Rattle.sums.proofs.Eaches.{length_each}
@@ -7,7 +7,6 @@ use Rattle.machine.specs.Run as run
 use Rattle.machine.specs.Run.{machine, machine_at, set_nth, delivered, given, first_between, without_first, letter, nth_row, with_machine, one_step, goes, by_each, up_to}
 use Rattle.machine.specs.Entry.{own}
 use Rattle.promise.proofs.Induction.{pick_both, goes_more}
-use Rattle.promise.proofs.Others.{by_each_append}
 use Rattle.hut.specs.Played.{as_machine, told_next}
 use Rattle.hut.specs.Effects.{after, posted, Lasts, Turned}
 use Rattle.hut.specs.declared.effect.Effect.{Effect}
@@ -81,7 +80,3 @@ went_on gs w w₁ i false h e = cc
 pub went_not : (gs : Gauges) (w w₁ : run.World) (i : ℕ) (go : Bool) → Went gs w i go w₁ → go ≡ false → (w₁ ≡ w) × ((machine_at w.machines i).pending ≡ [])
 went_not gs w w₁ i true h e = let z : ◌≡◌ {A = ℕ} 0 1 = cc in absurd (omega arith)
 went_not gs w w₁ i false h e = h
-
-pub by_each_more : (f : run.World → ℕ → run.World) (w : run.World) (n : ℕ) → by_each f w (up_to (n + 1)) ≡ f (by_each f w (up_to n)) n
-unfolding by_each up_to
-by_each_more f w n = ap (λ k. by_each f w (up_to k)) (add-one n) ∙ by_each_append f w (up_to n) (n ∷ [])
