@@ -3,13 +3,9 @@ use Rattle.std.proofs.Common.{◌≡◌, ℕ, ◌<◌, true, ◌∷◌, [], ◌+
 use Rattle.std.specs.Fmt as written
 use Rattle.std.proofs.lemmas.Grind.{common_steps}
 use Rattle.text.specs.Text.{Bytes, lines, all_digits, decimal}
+use Rattle.text.proofs.Numbers.{digits_read}
 use Rattle.text.proofs.Written.{words_only, written_solid, written_some, written_read}
 use Rattle.keeper.specs.Stations.{lone_number, lone_line}
-
-digits_read : (w : Bytes) (n : ℕ) → decimal w ≡ Some n → all_digits w ≡ true
-unfolding decimal all_digits
-digits_read [] n e = refl
-digits_read (b ∷ w) n e = grind (arith, common_steps)
 
 -- digits hold no end of a line
 one_line : (w : Bytes) → all_digits w ≡ true → lines (w ++ 10 ∷ []) ≡ w ∷ []

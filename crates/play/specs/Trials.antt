@@ -1,8 +1,8 @@
 -- What came of rivers, and how it is added up. Assumes nothing: these are definitions.
-use Rattle.std.specs.Prelude.{◌≡◌, ℕ, ◌+◌, min, Bool, true, ◌&&◌, List, [], ◌∷◌, length, ◌==◌, nat_lt}
+use Rattle.std.specs.Prelude.{◌≡◌, ◌↔◌, ℕ, ◌+◌, min, Bool, true, ◌&&◌, List, [], ◌∷◌, length, ◌==◌, nat_lt}
 use Rattle.sums.specs.Sums.{pick, Gauges, ToldSum, all_told}
 use Rattle.machine.specs.Run as run
-use Rattle.rows.specs.Walls.{wrong_rows, JustWhen}
+use Rattle.rows.specs.Walls.{wrong_rows}
 use Rattle.promise.specs.Once.{told_again, strokes_in}
 use Rattle.play.specs.Verdicts.{AreUntold}
 use Rattle.play.specs.declared.trials.Score.{Score}
@@ -40,5 +40,5 @@ pub record Scores (gs : Gauges) (is : List run.Item) (w : run.World) (s : Score)
   pub too_often : s.too_often ≡ pick (nat_lt (strokes_in is) (told_again w.told)) 1 0
   pub wrong : s.wrong ≡ wrong_rows gs w.told
   pub untold : (rows : List ToldSum) × AreUntold gs w.told rows × (s.untold ≡ length rows)
-  pub none_untold : JustWhen (s.untold ≡ 0) (all_told gs w.told ≡ true)
+  pub none_untold : (s.untold ≡ 0) ↔ (all_told gs w.told ≡ true)
   pub faults : s.faults ≡ pick w.fault 1 0

@@ -1,8 +1,8 @@
 // What is to be said of a river that was played.
-ghost use Rattle.std.specs.Prelude.{◌≡◌, true, IfOk, IfErr, Some, vec_len};
+ghost use Rattle.std.specs.Prelude.{◌≡◌, ◌↔◌, true, IfOk, IfErr, Some, vec_len};
 ghost use Rattle.sums.specs.Readings.{as_gauges};
 ghost use Rattle.sums.specs.Sums.{all_told};
-ghost use Rattle.rows.specs.Walls.{TooMuch, as_wall, wrong_rows, JustWhen};
+ghost use Rattle.rows.specs.Walls.{TooMuch, as_wall, wrong_rows};
 ghost use Rattle.world.specs.Worlds.{as_world};
 ghost use Rattle.play.specs.Verdicts.{AreUntold, verdict_of, said_of};
 
@@ -47,7 +47,7 @@ pub struct Judgement {
 pub fn judge(heap: Global, gauges: &[Vec<Reading>], world: &World) -> Result<Judgement, WallError>
     ensures wrong { IfOk result (λ j. j.comparison.wrong ≡ wrong_rows (as_gauges gauges.now) (as_world world.now).told) }
     ensures untold { IfOk result (λ j. AreUntold (as_gauges gauges.now) (as_world world.now).told (as_wall j.comparison.untold.items)) }
-    ensures none_untold { IfOk result (λ j. JustWhen (vec_len j.comparison.untold ≡ 0) (all_told (as_gauges gauges.now) (as_world world.now).told ≡ true)) }
+    ensures none_untold { IfOk result (λ j. (vec_len j.comparison.untold ≡ 0) ↔ (all_told (as_gauges gauges.now) (as_world world.now).told ≡ true)) }
     ensures verdict { IfOk result (λ j. j.verdict ≡ verdict_of (as_gauges gauges.now) (as_world world.now)) }
     ensures refused { IfErr result (λ e. TooMuch (as_gauges gauges.now) e) }
 {

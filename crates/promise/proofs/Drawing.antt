@@ -168,10 +168,19 @@ page_bytes_fit p ss cs lt ls lc =
     (page_all_bytes (page_cut p ss) (page_cut p cs))
 
 -- a set is that of its number
-pub set_named_back : (s : PageSet) → set_named (set_number s) ≡ s
+set_named_back : (s : PageSet) → set_named (set_number s) ≡ s
 set_named_back page_set.None = refl
 set_named_back First = refl
 set_named_back Second = refl
+
+pub named : (s : PageSet) (st : ℕ) → st ≡ set_number s → set_named st ≡ s
+named s st is = ap set_named is ∙ set_named_back s
+
+pub drawer_named : (s : PageSet) (p : ℕ) → page_drawer (set_named (set_number s)) p ≡ page_drawer s p
+drawer_named s p = ap (λ x. page_drawer x p) (set_named_back s)
+
+pub shadow_drawer : (s : PageSet) (st p d : ℕ) → st ≡ set_number s → page_drawer (shadow_of s) p ≡ Some d → page_drawer (shadow_of (set_named st)) p ≡ Some d
+shadow_drawer s st p d is e = ap (λ x. page_drawer (shadow_of x) p) (named s st is) ∙ e
 
 -- where there are pages, an hour is at hand
 pub open_of : (rs : List Reading) (ts : List ToldSum) (s : PageSet) (c p : ℕ) (ss cs : List ℕ) → (s ≡ page_set.None → ⊥) →

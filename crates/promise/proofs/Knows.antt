@@ -9,7 +9,8 @@ use Rattle.sums.proofs.Parts.{part_over, part_of_all, comes_counted, counted_com
 use Rattle.sums.proofs.Places.{place_back, cell_back, place_fits, cell_fits}
 use Rattle.sums.proofs.Rising.{rising_hour}
 use Rattle.sums.proofs.Taken.{tables_zeros, tables_more, key_fits}
-use Rattle.promise.proofs.Rows.{any_front, any_last, any_at, Fine}
+use Rattle.sums.proofs.Anys.{any_front, any_last, any_at}
+use Rattle.promise.proofs.Rows.{Fine}
 use Rattle.promise.proofs.Views.{first_cell}
 
 module _ (rs : List Reading) where

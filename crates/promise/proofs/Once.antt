@@ -4,6 +4,7 @@ use Rattle.std.proofs.lemmas.Bool.{cases_eq, cases_lt, eq-eqb, ne_eqb, eqb-true,
 use Rattle.sums.specs.Cells.{cell_of, place_of}
 use Rattle.sums.specs.Parts.{no_reading}
 use Rattle.sums.specs.Sums.{pick, or, Reading, any, belongs, ToldSum, has_told}
+use Rattle.sums.proofs.Anys.{any_place, any_split}
 use Rattle.sums.proofs.Places.{cell_back, cell_fits}
 use Rattle.sums.proofs.Rising.{rising_hour}
 use Rattle.sums.proofs.Taken.{key_fits}
@@ -24,33 +25,6 @@ again_more before (u ∷ ts) t =
 
 again_last : (ts : List ToldSum) (t : ToldSum) → told_again (ts ++ t ∷ []) ≡ told_again ts + pick (has_told ts t.hour t.place) 1 0
 again_last ts t = again_more [] ts t
-
-module _ {A : Type 0} (f : A → Bool) where
-  -- where it stands
-  any_place : (xs : List A) (d : A) → any f xs ≡ true → (i : ℕ) × (i < length xs) × (f (get_or xs i d) ≡ true)
-  unfolding any
-  any_place [] d h = cc
-  any_place (x ∷ xs) d h = go (f x) refl h (any_place xs d)
-    where
-      go : (b : Bool) → f x ≡ b → or b (any f xs) ≡ true → (any f xs ≡ true → (i : ℕ) × (i < length xs) × (f (get_or xs i d) ≡ true)) →
-          (i : ℕ) × (i < length (x ∷ xs)) × (f (get_or (x ∷ xs) i d) ≡ true)
-      go true e q k = (0, omega arith, e)
-      go false e q k = let r = k q in (suc r.0, omega (arith, r.1), r.2)
-
-  -- in front, or the last
-  any_split : (xs : List A) (x : A) → any f (xs ++ x ∷ []) ≡ true → (any f xs ≡ true) ⊎ (f x ≡ true)
-  unfolding any
-  any_split [] x h = go (f x) h
-    where
-      go : (b : Bool) → or b false ≡ true → (false ≡ true) ⊎ (b ≡ true)
-      go true q = inr refl
-      go false q = inl q
-  any_split (y ∷ ys) x h = go (f y) h (any_split ys x)
-    where
-      go : (b : Bool) → or b (any f (ys ++ x ∷ [])) ≡ true → (any f (ys ++ x ∷ []) ≡ true → (any f ys ≡ true) ⊎ (f x ≡ true)) →
-          (or b (any f ys) ≡ true) ⊎ (f x ≡ true)
-      go true q k = inl refl
-      go false q k = k q
 
 -- a cursor's place in the order of telling
 abbrev pub mark : (h c : ℕ) → ℕ

@@ -9,7 +9,7 @@ use Rattle.sums.specs.Tables.{zero_table, entry_of, next_reading, TablesOf}
 use Rattle.sums.specs.Written.{written}
 use Rattle.sums.specs.declared.tables.Entry.{Entry}
 use Rattle.sums.proofs.Places.{cell_fits}
-use Rattle.sums.proofs.Taken.{tables_zeros, entry_fits}
+use Rattle.sums.proofs.Taken.{zeros_length, tables_zeros, entry_fits}
 use Rattle.store.specs.Drawers.{Drawers, drawer_at, page_drawer}
 use Rattle.store.specs.Kept.{Kept, kept, kept_of}
 use Rattle.store.specs.Laws.{PagesKept, cut_bytes, ReadBack}
@@ -18,7 +18,7 @@ use Rattle.store.specs.declared.records.PageSet.{PageSet}
 use Rattle.store.specs.declared.records.PageSet.TheVariants as page_set
 use Rattle.store.proofs.Boots.{boot_law}
 use Rattle.store.proofs.Checkpoints.{shadow_other, commit, blank, cursor_alone}
-use Rattle.store.proofs.Numbered.{page_has_drawer, page_within}
+use Rattle.store.proofs.Numbered.{page_has_drawer, page_within, no_page, none_or_some, some_numbered}
 use Rattle.gauge.specs.Memory.{phase_in, begun_in, hour_in, pos_in, cursor_hour_in, cursor_cell_in}
 use Rattle.gauge.specs.Gauge.{tell_next, next_cell, set_named}
 use Rattle.machine.specs.Run.{Step, Act, more, from, let_go, sends, keep, recall, tells, rests, Event, wakes, comes, later, ends, slot, next}
@@ -28,17 +28,13 @@ use Rattle.machine.specs.Entry.{own}
 use Rattle.promise.specs.Once.{told_again}
 use Rattle.promise.proofs.Knows.{hour_at, Open, Shut, Over, over_end, over_other}
 use Rattle.promise.proofs.Once.{mark, hand, hand_in, Marked, Exact, Owed, closed_exact, closed_marked, noted_marked, cleared_marked, told_marked, told_exact, told_few}
-use Rattle.promise.proofs.Drawing.{kept_page, page_there, set_named_back, tables_fit}
+use Rattle.promise.proofs.Drawing.{kept_page, page_there, named, drawer_named, shadow_drawer, tables_fit}
 use Rattle.promise.proofs.Machines.{none_and_some}
 use Rattle.promise.proofs.Phases.{at_most_one}
 use Rattle.promise.proofs.Rows.{Fine, fits_at}
 use Rattle.promise.proofs.Runs.{Drawn, Booted, Runs, waking, at_root, at_page, at_cursor, at_rooted, at_placed, at_released, at_comes, at_ends, at_later, at_saved, at_told, at_noted, at_closed, at_done}
 use Rattle.promise.proofs.Views.{mem, does, start_mem, step_wakes, step_root_none, step_root_some, step_page, step_page_last, step_cursor, step_rooted, step_placed, step_released}
 use Rattle.promise.proofs.Views.{step_takes, step_over, step_ends_shut, step_ends_open, step_done, step_told, step_noted, step_closed, step_filled, step_saved, step_saved_root, tell_cell, tell_close, cell_found}
-
-pub zeros : length zero_table ≡ places
-unfolding zero_table
-zeros = refl
 
 module _ (rs : List Reading) (ts : List ToldSum) where
   -- the hour at hand and the cursor, by the drawers
@@ -193,7 +189,7 @@ module _ (rs : List Reading) (ts : List ToldSum) (fine : Fine rs) (s : ℕ) wher
   wakes_up i ds o =
       let o₁ : Once rs ts s (mem 0 0 0 0 0 0 0 0 zero_table zero_table) (kept_of ds) = subst (λ m. Once rs ts s m (kept_of ds)) start_mem o in
       seen ds own.start (wakes i) (mem 1 0 0 0 0 0 0 0 zero_table zero_table) (recall 0)
-      (ap (λ m. own.step m (wakes i)) start_mem ∙ step_wakes 0 0 0 0 0 0 0 zero_table zero_table zeros zeros 0 i)
+      (ap (λ m. own.step m (wakes i)) start_mem ∙ step_wakes 0 0 0 0 0 0 0 zero_table zero_table zeros_length zeros_length 0 i)
       (asks rs ts s (kept_of ds) _ (omega arith) (waits rs ts s (kept_of ds) _ (λ z. omega arith) o₁))
 
   module _ (gone : ℕ) (ds : Drawers) (d : Drawn rs ts gone ds) where
@@ -201,43 +197,30 @@ module _ (rs : List Reading) (ts : List ToldSum) (fine : Fine rs) (s : ℕ) wher
     K = kept_of ds
 
     boots : Once rs ts s (mem 1 0 0 0 0 0 0 0 zero_table zero_table) K → After ds (own.step (mem 1 0 0 0 0 0 0 0 zero_table zero_table) (slot (drawer_at ds 0)))
-    boots o = ⊎_elim blank_root some_root (blank_or_not K.root.set)
+    boots o = ⊎_elim blank_root some_root (none_or_some K.root.set)
       where
         w : Waits rs ts s K
         w = waits rs ts s K _ (λ z. omega arith) o
-
-        blank_or_not : (p : PageSet) → (p ≡ page_set.None) ⊎ (p ≡ page_set.None → ⊥)
-        blank_or_not page_set.None = inl refl
-        blank_or_not page_set.First = inr (λ e. let z : ◌≡◌ {A = ℕ} 0 1 = cc in omega arith)
-        blank_or_not page_set.Second = inr (λ e. let z : ◌≡◌ {A = ℕ} 0 1 = cc in omega arith)
-
-        number_some : (p : PageSet) → (p ≡ page_set.None → ⊥) → set_number p ≡ 0 → ⊥
-        number_some page_set.None some e = some refl
-        number_some page_set.First some e = omega arith
-        number_some page_set.Second some e = omega arith
 
         blank_root : K.root.set ≡ page_set.None → After ds (own.step (mem 1 0 0 0 0 0 0 0 zero_table zero_table) (slot (drawer_at ds 0)))
         blank_root none =
             let is-root : root_of (drawer_at ds 0) ≡ root page_set.None K.root.hour K.root.pos = sym (boot_law.root ds) ∙ ap (λ p. root p K.root.hour K.root.pos) none in
             seen ds _ _ (mem 3 0 0 K.root.hour K.root.pos 0 0 0 zero_table zero_table) (recall 2)
-            (step_root_none 0 0 0 0 0 0 0 zero_table zero_table zeros zeros (drawer_at ds 0) K.root.hour K.root.pos is-root d.root_fits.hour d.root_fits.pos)
+            (step_root_none 0 0 0 0 0 0 0 zero_table zero_table zeros_length zeros_length (drawer_at ds 0) K.root.hour K.root.pos is-root d.root_fits.hour d.root_fits.pos)
             (asks_last rs ts s K _ refl w (sym (ap (λ p. hand rs (set_number p) K.root.hour K.root.pos) none)))
 
         some_root : (K.root.set ≡ page_set.None → ⊥) → After ds (own.step (mem 1 0 0 0 0 0 0 0 zero_table zero_table) (slot (drawer_at ds 0)))
         some_root some =
             let there = page_has_drawer K.root.set 0 some (lit< tt) in
             seen ds _ _ (mem 2 0 1 K.root.hour K.root.pos (set_number K.root.set) 0 0 zero_table zero_table) (recall there.0)
-            (step_root_some 0 0 0 0 0 0 0 zero_table zero_table zeros zeros (drawer_at ds 0) K.root.set K.root.hour K.root.pos there.0 (sym (boot_law.root ds))
-            (number_some K.root.set some) d.root_fits.hour d.root_fits.pos there.1)
+            (step_root_some 0 0 0 0 0 0 0 zero_table zero_table zeros_length zeros_length (drawer_at ds 0) K.root.set K.root.hour K.root.pos there.0 (sym (boot_law.root ds))
+            (some_numbered K.root.set some) d.root_fits.hour d.root_fits.pos there.1)
             (asks rs ts s K _ (omega arith) w)
 
     -- a page is read
     module _ (p e : ℕ) (ss cs : List ℕ) (some : K.root.set ≡ page_set.None → ⊥) (at : page_drawer K.root.set p ≡ Some e) (back : ReadBack ds p ss cs) where
       abbrev bs : List ℕ
       bs = drawer_at ds e
-
-      drawer_named : (q : ℕ) → page_drawer (set_named (set_number K.root.set)) q ≡ page_drawer K.root.set q
-      drawer_named q = ap (λ x. page_drawer x q) (set_named_back K.root.set)
 
       reads_page : Once rs ts s (mem 2 p 1 K.root.hour K.root.pos (set_number K.root.set) 0 0 ss cs) K →
           After ds (own.step (mem 2 p 1 K.root.hour K.root.pos (set_number K.root.set) 0 0 ss cs) (slot bs))
@@ -246,13 +229,13 @@ module _ (rs : List Reading) (ts : List ToldSum) (fine : Fine rs) (s : ℕ) wher
           let there = page_has_drawer K.root.set (p + 1) some another in
           seen ds _ _ (mem 2 (p + 1) 1 K.root.hour K.root.pos (set_number K.root.set) 0 0 (written ss (128 * p) (page_sums bs)) (written cs (128 * p) (page_counts bs)))
           (recall there.0)
-          (step_page p 1 K.root.hour K.root.pos (set_number K.root.set) 0 0 ss cs back.sums_length back.counts_length bs there.0 low fit (drawer_named (p + 1) ∙ there.1))
+          (step_page p 1 K.root.hour K.root.pos (set_number K.root.set) 0 0 ss cs back.sums_length back.counts_length bs there.0 low fit (drawer_named K.root.set (p + 1) ∙ there.1))
           (asks rs ts s K _ (omega arith) w))
           (λ (last : 8 ≤ p + 1).
           seen ds _ _ (mem 3 p 1 K.root.hour K.root.pos (set_number K.root.set) 0 0 (written ss (128 * p) (page_sums bs)) (written cs (128 * p) (page_counts bs)))
           (recall 2)
           (step_page_last p 1 K.root.hour K.root.pos (set_number K.root.set) 0 0 ss cs back.sums_length back.counts_length bs low fit
-          (drawer_named (p + 1) ∙ no_page K.root.set (p + 1) last))
+          (drawer_named K.root.set (p + 1) ∙ no_page K.root.set (p + 1) last))
           (asks_last rs ts s K _ refl w (sym (hand_some rs K.root.set K.root.hour K.root.pos some))))
           (cases_lt (p + 1) 8)
         where
@@ -264,11 +247,6 @@ module _ (rs : List Reading) (ts : List ToldSum) (fine : Fine rs) (s : ℕ) wher
 
           fit : page_fits bs ≡ true
           fit = page_there rs ts gone ds fine d p e some at
-
-          no_page : (x : PageSet) (q : ℕ) → 8 ≤ q → page_drawer x q ≡ None
-          no_page page_set.None q le = refl
-          no_page page_set.First q le = cond-false _ _ _ (le-ltb q 8 le)
-          no_page page_set.Second q le = cond-false _ _ _ (le-ltb q 8 le)
 
     -- the cursor is read
     reads_cursor : (ix bg : ℕ) → Once rs ts s (mem 3 ix bg K.root.hour K.root.pos (set_number K.root.set) 0 0 K.sums K.counts) K →
@@ -422,12 +400,6 @@ module _ (rs : List Reading) (ts : List ToldSum) (fine : Fine rs) (s : ℕ) wher
     abbrev shadow : PageSet
     shadow = shadow_of (kept_of ds).root.set
 
-    named : set_named st ≡ (kept_of ds).root.set
-    named = ap set_named b.set ∙ set_named_back (kept_of ds).root.set
-
-    shadow_drawer : (p d : ℕ) → page_drawer shadow p ≡ Some d → page_drawer (shadow_of (set_named st)) p ≡ Some d
-    shadow_drawer p d e = ap (λ x. page_drawer (shadow_of x) p) named ∙ e
-
     saves : (ph ix p : ℕ) (ev : Event) → p < pages →
         ((d : ℕ) → page_drawer shadow p ≡ Some d → own.step (mem ph ix 1 hr ps st ch cc ss cs) ev ≡ does (mem 7 p 1 hr ps st ch cc ss cs) (keep d (cut_bytes p ss cs))) →
         After ds (own.step (mem ph ix 1 hr ps st ch cc ss cs) ev)
@@ -449,7 +421,7 @@ module _ (rs : List Reading) (ts : List ToldSum) (fine : Fine rs) (s : ℕ) wher
         commit ds b.drawn.size (root shadow hr ps) within ss cs (tables_fit rs ts fine hr ps ss cs o) some all in
         seen ds _ _ (mem 8 p 1 hr ps (set_number shadow) ch cc ss cs) (keep 0 (root_bytes r))
         (step_saved_root p 1 hr ps st ch cc ss cs b.sums_length b.counts_length last
-        ∙ ap (λ x. does (mem 8 p 1 hr ps (set_number (shadow_of x)) ch cc ss cs) (keep 0 (root_bytes (root (shadow_of x) hr ps)))) named)
+        ∙ ap (λ x. does (mem 8 p 1 hr ps (set_number (shadow_of x)) ch cc ss cs) (keep 0 (root_bytes (root (shadow_of x) hr ps)))) (named (kept_of ds).root.set st b.set))
         (subst (λ k. Once rs ts s (mem 8 p 1 hr ps (set_number shadow) ch cc ss cs) k) (sym e)
         (goes rs ts s (kept (root shadow hr ps) ss cs (kept_of ds).cursor) _ (lit< tt) (λ z. omega arith) (record {
           low = g.low;
@@ -462,12 +434,12 @@ module _ (rs : List Reading) (ts : List ToldSum) (fine : Fine rs) (s : ℕ) wher
 
     saves_first : (ix : ℕ) → After ds (own.step (mem 6 ix 1 hr ps st ch cc ss cs) later)
     saves_first ix = saves 6 ix 0 later (lit< tt)
-        (λ d e. step_filled ix 1 hr ps st ch cc ss cs b.sums_length b.counts_length d (λ z. omega arith) (shadow_drawer 0 d e))
+        (λ d e. step_filled ix 1 hr ps st ch cc ss cs b.sums_length b.counts_length d (λ z. omega arith) (shadow_drawer (kept_of ds).root.set st 0 d b.set e))
 
     saves_next : (p : ℕ) → p < pages → PagesKept ds shadow ss cs (suc p) → After ds (own.step (mem 7 p 1 hr ps st ch cc ss cs) next)
     saves_next p low put = ⊎_elim
         (λ (another : p + 1 < 8). saves 7 p (p + 1) next another
-        (λ d e. step_saved p 1 hr ps st ch cc ss cs b.sums_length b.counts_length d another (shadow_drawer (p + 1) d e)))
+        (λ d e. step_saved p 1 hr ps st ch cc ss cs b.sums_length b.counts_length d another (shadow_drawer (kept_of ds).root.set st (p + 1) d b.set e)))
         (λ (last : 8 ≤ p + 1). commits p low last put)
         (cases_lt (p + 1) 8)
 

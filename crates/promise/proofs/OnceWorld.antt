@@ -1,6 +1,7 @@
 -- How often rows stand on the wall: what is known of the first machine holds through all that happens, by the strokes so far; the others tell nothing.
 use Rattle.std.proofs.Common.{◌≡◌, ℕ, zero, suc, ◌+◌, ◌<◌, ◌≤◌, true, false, List, [], ◌∷◌, ◌++◌, length, sym, refl, ap, ◌∙◌, subst, inl, ⊎_elim, arith, lit<}
 use Rattle.std.proofs.lemmas.Bool.{both_ways, cases_lt}
+use Rattle.sums.proofs.Taken.{zeros_length}
 use Rattle.sums.specs.Sums.{Reading, Gauges, ToldSum, any, gauges_fine}
 use Rattle.sums.specs.Tables.{zero_table}
 use Rattle.sums.proofs.Rising.{rising_hour}
@@ -24,7 +25,7 @@ use Rattle.promise.proofs.Induction.{pick_both, by_each_good}
 use Rattle.promise.proofs.Knows.{hour_at, IsTold, Open}
 use Rattle.promise.proofs.Machines.{at_set_same, at_set_all, at_set_other, machine_past, none_and_some}
 use Rattle.promise.proofs.Once.{hand, hand_in}
-use Rattle.promise.proofs.OnceSteps.{zeros, first_same, Once, Waits, AfterAct, steps_once, asks, fell, once_more, once_few}
+use Rattle.promise.proofs.OnceSteps.{first_same, Once, Waits, AfterAct, steps_once, asks, fell, once_more, once_few}
 use Rattle.promise.proofs.Phases.{at_most_one}
 use Rattle.promise.proofs.Rows.{row_fine, row_empty}
 use Rattle.promise.proofs.Runs.{Drawn, Booted, Runs, waking, at_root, at_page, at_cursor, at_rooted, at_placed, at_released, at_comes, at_ends, at_later, at_saved, at_told, at_noted, at_closed, at_done}
@@ -60,7 +61,7 @@ module _ (rs : List Reading) (ts : List ToldSum) (empty : length rs ≡ 0) where
           let is-root : root_of (drawer_at ds 0) ≡ root page_set.None (kept_of ds).root.hour (kept_of ds).root.pos =
           sym (boot_law.root ds) ∙ ap (λ p. root p (kept_of ds).root.hour (kept_of ds).root.pos) e in
           hush _ _ (mem 3 0 0 K.root.hour K.root.pos 0 0 0 zero_table zero_table) (recall 2)
-          (step_root_none 0 0 0 0 0 0 0 zero_table zero_table zeros zeros (drawer_at ds 0) K.root.hour K.root.pos is-root d.root_fits.hour d.root_fits.pos) tt
+          (step_root_none 0 0 0 0 0 0 0 zero_table zero_table zeros_length zeros_length (drawer_at ds 0) K.root.hour K.root.pos is-root d.root_fits.hour d.root_fits.pos) tt
       go page_set.First e = none_open _ _ _ _ (open_of rs ts (kept_of ds).root.set _ _ _ _ (λ f. let z : ◌≡◌ {A = ℕ} 1 0 = ap set_number (sym e ∙ f) in omega arith) d.holds)
       go page_set.Second e = none_open _ _ _ _ (open_of rs ts (kept_of ds).root.set _ _ _ _ (λ f. let z : ◌≡◌ {A = ℕ} 2 0 = ap set_number (sym e ∙ f) in omega arith) d.holds)
 
@@ -89,7 +90,7 @@ module _ (rs : List Reading) (ts : List ToldSum) (empty : length rs ≡ 0) where
   pub all_silent : (m : List ℕ) (ev : Event) (evs : List Event) (at gone : ℕ) (ds : Drawers) → Runs rs ts m (ev ∷ evs) at gone ds → Silent (own.step m ev).act
   all_silent _ _ _ _ _ _ (waking k gone ds d) =
       hush own.start (wakes k) (mem 1 0 0 0 0 0 0 0 zero_table zero_table) (recall 0)
-      (ap (λ m. own.step m (wakes k)) start_mem ∙ step_wakes 0 0 0 0 0 0 0 zero_table zero_table zeros zeros 0 k) tt
+      (ap (λ m. own.step m (wakes k)) start_mem ∙ step_wakes 0 0 0 0 0 0 0 zero_table zero_table zeros_length zeros_length 0 k) tt
   all_silent _ _ _ _ _ _ (at_root gone ds d) = boots_silent gone ds d
   all_silent _ _ _ _ _ _ (at_page p e gone ds ss cs d some at back) = none_open _ _ _ _ (open_of rs ts (kept_of ds).root.set _ _ _ _ some d.holds)
   all_silent _ _ _ _ _ _ (at_cursor ix bg gone ds d f h) = cursor_silent ix bg gone ds d

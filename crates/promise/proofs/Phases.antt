@@ -8,13 +8,13 @@ use Rattle.sums.specs.Sums.{Reading, Gauges, ToldSum, hour_of, is_right, all_of,
 use Rattle.sums.specs.Tables.{zero_table, entry_of, next_reading, TablesOf, with_sum, with_count}
 use Rattle.sums.specs.declared.tables.Entry.{Entry}
 use Rattle.sums.proofs.Places.{cell_fits}
-use Rattle.sums.proofs.Taken.{tables_zeros, entry_fits}
+use Rattle.sums.proofs.Taken.{zeros_length, tables_zeros, entry_fits}
 use Rattle.store.specs.Drawers.{Drawers, drawer_at, page_drawer}
 use Rattle.store.specs.Kept.{Kept, kept_of, sums_in}
 use Rattle.store.proofs.Boots.{boot_law}
 use Rattle.store.specs.Laws.{PagesKept, cut_bytes, ReadBack}
 use Rattle.store.proofs.Checkpoints.{shadow_other, page_more}
-use Rattle.store.proofs.Numbered.{page_has_drawer, page_apart, page_within}
+use Rattle.store.proofs.Numbered.{page_has_drawer, page_apart, page_within, no_page, none_or_some, some_numbered}
 use Rattle.store.specs.Records.{set_number, shadow_of, root, root_bytes, root_of, cursor, cursor_bytes}
 use Rattle.store.specs.declared.records.PageSet.{PageSet}
 use Rattle.store.specs.declared.records.PageSet.TheVariants as page_set
@@ -28,17 +28,13 @@ use Rattle.gauge.specs.Gauge.{tell_next, next_cell, set_named}
 use Rattle.promise.specs.Promise.{core}
 use Rattle.promise.proofs.Knows.{hour_at, Holds, CursorTrue, Over, Shut, Open, cell_right, cell_told, hour_told, open_first, open_next, over_end, over_other, shut_after}
 use Rattle.promise.proofs.Drawing.{drawn_cursor, kept_cursor, drawn_page, kept_page, drawn_root, kept_root, drawn_blank, kept_blank, booted_drawers, tables_fit}
-use Rattle.promise.proofs.Drawing.{cursor_bytes_fit, root_bytes_fit, page_bytes_fit, page_there, set_named_back, open_of}
+use Rattle.promise.proofs.Drawing.{cursor_bytes_fit, root_bytes_fit, page_bytes_fit, page_there, named, drawer_named, shadow_drawer, open_of}
 use Rattle.promise.proofs.Machines.{none_and_some}
 use Rattle.promise.proofs.Ranks.{rank}
 use Rattle.promise.proofs.Rows.{row_fine, fits_at, row_is_all}
 use Rattle.promise.proofs.Runs.{Drawn, Booted, Runs, waking, at_root, at_page, at_cursor, at_rooted, at_placed, at_released, at_comes, at_ends, at_later, at_saved, at_told, at_noted, at_closed, at_done, small, booted_more}
 use Rattle.promise.proofs.Turns.{Good, Stepped, keeps, recalls, froms, releases, rests_now, tells_row, asks_more}
 use Rattle.promise.proofs.Views.{mem, does, start_mem, step_wakes, step_placed, step_released, step_rooted, step_told, step_done, step_closed, step_takes, step_over, step_ends_open, step_ends_shut, step_noted, tell_cell, tell_close, cell_found, cells_none, first_cell, step_filled, step_saved, step_saved_root, step_root_none, step_root_some, step_page, step_page_last, step_cursor}
-
-zeros : length zero_table ≡ places
-unfolding zero_table
-zeros = refl
 
 pub at_most_one : (bg : ℕ) → (bg ≡ 0) ⊎ (bg ≡ 1) → bg ≤ 1
 at_most_one bg (inl e) = omega arith
@@ -61,7 +57,7 @@ module _ (gs : Gauges) (fine : gauges_fine gs ≡ true) (w : World) (i : ℕ) (l
   wakes_up : (k gone : ℕ) (ds : Drawers) → Is own.start (wakes k) gone gone ds → Drawn rs ts gone ds → Next own.start (wakes k)
   wakes_up k gone ds is d =
       recalls gs w i lt g own.start (wakes k) gone gone ds is (mem 1 0 0 0 0 0 0 0 zero_table zero_table) 0
-      (ap (λ m. own.step m (wakes k)) start_mem ∙ step_wakes 0 0 0 0 0 0 0 zero_table zero_table zeros zeros 0 k) (lit< tt) (at_root gone ds d) (omega arith)
+      (ap (λ m. own.step m (wakes k)) start_mem ∙ step_wakes 0 0 0 0 0 0 0 zero_table zero_table zeros_length zeros_length 0 k) (lit< tt) (at_root gone ds d) (omega arith)
 
   -- BETWEEN A ROOT RECORD AND A READING
   module _ (ix bg hr ps st ch cc : ℕ) (ss cs : List ℕ) where
@@ -287,8 +283,8 @@ module _ (gs : Gauges) (fine : gauges_fine gs ≡ true) (w : World) (i : ℕ) (l
         hour_small = b.hour_small;
         cursor_small = b.cursor_small;
         cell_small = b.cell_small;
-        sums_length = zeros;
-        counts_length = zeros;
+        sums_length = zeros_length;
+        counts_length = zeros_length;
         newer = subst (λ n. n ≤ ps) (sym (ap (λ r. r.pos) k)) (omega arith);
         room = b.room;
       })
@@ -299,12 +295,6 @@ module _ (gs : Gauges) (fine : gauges_fine gs ≡ true) (w : World) (i : ℕ) (l
   module _ (hr ps st ch cc gone : ℕ) (ds : Drawers) (ss cs : List ℕ) (b : Booted rs ts gone ds 1 hr ps st ch cc ss cs) where
     abbrev shadow : PageSet
     shadow = shadow_of (kept_of ds).root.set
-
-    named : set_named st ≡ (kept_of ds).root.set
-    named = ap set_named b.set ∙ set_named_back (kept_of ds).root.set
-
-    shadow_drawer : (p d : ℕ) → page_drawer shadow p ≡ Some d → page_drawer (shadow_of (set_named st)) p ≡ Some d
-    shadow_drawer p d e = ap (λ s. page_drawer (shadow_of s) p) named ∙ e
 
     -- a page is kept, the one behind those that are
     saves : (ph ix p : ℕ) (ev : Event) → Is (mem ph ix 1 hr ps st ch cc ss cs) ev ps gone ds → p < pages → PagesKept ds shadow ss cs p →
@@ -338,7 +328,7 @@ module _ (gs : Gauges) (fine : gauges_fine gs ≡ true) (w : World) (i : ℕ) (l
         let k : (kept_of (set ds 0 (root_bytes (root shadow hr ps)))).root ≡ root shadow hr ps = kept_root rs ts gone ds b.drawn hr ps b.hour_small ps_small in
         let step : own.step (mem 7 p 1 hr ps st ch cc ss cs) next ≡ does (mem 8 p 1 hr ps (set_number shadow) ch cc ss cs) (keep 0 (root_bytes (root shadow hr ps))) =
         step_saved_root p 1 hr ps st ch cc ss cs b.sums_length b.counts_length last
-        ∙ ap (λ s. does (mem 8 p 1 hr ps (set_number (shadow_of s)) ch cc ss cs) (keep 0 (root_bytes (root (shadow_of s) hr ps)))) named in
+        ∙ ap (λ s. does (mem 8 p 1 hr ps (set_number (shadow_of s)) ch cc ss cs) (keep 0 (root_bytes (root (shadow_of s) hr ps)))) (named (kept_of ds).root.set st b.set) in
         keeps gs w i lt g _ next ps gone ds is (mem 8 p 1 hr ps (set_number shadow) ch cc ss cs) 0 (root_bytes (root shadow hr ps)) step (lit< tt) (root_bytes_fit shadow hr ps)
         (at_rooted p 1 hr ps (set_number shadow) ch cc ps gone es ss cs
         (record {
@@ -361,7 +351,7 @@ module _ (gs : Gauges) (fine : gauges_fine gs ≡ true) (w : World) (i : ℕ) (l
     saves_next : (p : ℕ) → Is (mem 7 p 1 hr ps st ch cc ss cs) next ps gone ds → p < pages → PagesKept ds shadow ss cs (suc p) → Next (mem 7 p 1 hr ps st ch cc ss cs) next
     saves_next p is low kept = ⊎_elim
         (λ (another : p + 1 < 8). saves 7 p (p + 1) next is another (subst (λ n. PagesKept ds shadow ss cs n) (sym (add-one p)) kept)
-        (λ d e. step_saved p 1 hr ps st ch cc ss cs b.sums_length b.counts_length d another (shadow_drawer (p + 1) d e)) (omega arith))
+        (λ d e. step_saved p 1 hr ps st ch cc ss cs b.sums_length b.counts_length d another (shadow_drawer (kept_of ds).root.set st (p + 1) d b.set e)) (omega arith))
         (λ (last : 8 ≤ p + 1). commits p is low last kept)
         (cases_lt (p + 1) 8)
 
@@ -387,13 +377,8 @@ module _ (gs : Gauges) (fine : gauges_fine gs ≡ true) (w : World) (i : ℕ) (l
         mem 3 0 0 K.root.hour K.root.pos 0 0 0 zero_table zero_table =
         (λ n. mem 3 0 0 K.root.hour K.root.pos (set_number (none n)) 0 0 (zero-tables.0 n) (zero-tables.1 n)) in
         recalls gs w i lt g _ _ gone gone ds is (mem 3 0 0 K.root.hour K.root.pos 0 0 0 zero_table zero_table) 2
-        (step_root_none 0 0 0 0 0 0 0 zero_table zero_table zeros zeros (drawer_at ds 0) K.root.hour K.root.pos is-root d.root_fits.hour d.root_fits.pos) (lit< tt)
+        (step_root_none 0 0 0 0 0 0 0 zero_table zero_table zeros_length zeros_length (drawer_at ds 0) K.root.hour K.root.pos is-root d.root_fits.hour d.root_fits.pos) (lit< tt)
         (subst (λ m. Runs rs ts m (slot (drawer_at ds 2) ∷ []) gone gone ds) here runs) (omega arith)
-
-    number_some : (s : PageSet) → (s ≡ page_set.None → ⊥) → set_number s ≡ 0 → ⊥
-    number_some page_set.None some e = some refl
-    number_some page_set.First some e = omega arith
-    number_some page_set.Second some e = omega arith
 
     -- it names pages: the first is asked for
     boots_pages : Is (mem 1 0 0 0 0 0 0 0 zero_table zero_table) (slot (drawer_at ds 0)) gone gone ds → (K.root.set ≡ page_set.None → ⊥) →
@@ -402,17 +387,12 @@ module _ (gs : Gauges) (fine : gauges_fine gs ≡ true) (w : World) (i : ℕ) (l
         let there = page_has_drawer K.root.set 0 some (lit< tt) in
         let far = page_apart K.root.set 0 there.0 there.1 in
         recalls gs w i lt g _ _ gone gone ds is (mem 2 0 1 K.root.hour K.root.pos (set_number K.root.set) 0 0 zero_table zero_table) there.0
-        (step_root_some 0 0 0 0 0 0 0 zero_table zero_table zeros zeros (drawer_at ds 0) K.root.set K.root.hour K.root.pos there.0 root_there
-        (number_some K.root.set some) d.root_fits.hour d.root_fits.pos there.1)
-        (omega (arith, far)) (at_page 0 there.0 gone ds zero_table zero_table d some there.1 (boot_law.begun ds zero_table zero_table zeros zeros)) (omega arith)
+        (step_root_some 0 0 0 0 0 0 0 zero_table zero_table zeros_length zeros_length (drawer_at ds 0) K.root.set K.root.hour K.root.pos there.0 root_there
+        (some_numbered K.root.set some) d.root_fits.hour d.root_fits.pos there.1)
+        (omega (arith, far)) (at_page 0 there.0 gone ds zero_table zero_table d some there.1 (boot_law.begun ds zero_table zero_table zeros_length zeros_length)) (omega arith)
 
     boots : Is (mem 1 0 0 0 0 0 0 0 zero_table zero_table) (slot (drawer_at ds 0)) gone gone ds → Next (mem 1 0 0 0 0 0 0 0 zero_table zero_table) (slot (drawer_at ds 0))
-    boots is = ⊎_elim (boots_blank is) (boots_pages is) (blank_or_not K.root.set)
-      where
-        blank_or_not : (s : PageSet) → (s ≡ page_set.None) ⊎ (s ≡ page_set.None → ⊥)
-        blank_or_not page_set.None = inl refl
-        blank_or_not page_set.First = inr (λ e. let z : ◌≡◌ {A = ℕ} 0 1 = cc in omega arith)
-        blank_or_not page_set.Second = inr (λ e. let z : ◌≡◌ {A = ℕ} 0 1 = cc in omega arith)
+    boots is = ⊎_elim (boots_blank is) (boots_pages is) (none_or_some K.root.set)
 
     -- a page is read
     module _ (p e : ℕ) (ss cs : List ℕ) (some : K.root.set ≡ page_set.None → ⊥) (at : page_drawer K.root.set p ≡ Some e) (back : ReadBack ds p ss cs) where
@@ -437,9 +417,6 @@ module _ (gs : Gauges) (fine : gauges_fine gs ≡ true) (w : World) (i : ℕ) (l
           subst (λ x. ReadBack ds (suc p) (written ss (128 * p) x) (written cs (128 * p) (page_counts bs))) same.0
           (subst (λ x. ReadBack ds (suc p) (written ss (128 * p) (sums_in bs)) (written cs (128 * p) x)) same.1 (boot_law.one_more ds p e ss cs at back))
 
-      drawer_named : (q : ℕ) → page_drawer (set_named (set_number K.root.set)) q ≡ page_drawer K.root.set q
-      drawer_named q = ap (λ s. page_drawer s q) (set_named_back K.root.set)
-
       reads_page : Is P (slot bs) gone gone ds → Next P (slot bs)
       reads_page is = ⊎_elim
           (λ (another : p + 1 < 8).
@@ -448,7 +425,7 @@ module _ (gs : Gauges) (fine : gauges_fine gs ≡ true) (w : World) (i : ℕ) (l
           recalls gs w i lt g P (slot bs) gone gone ds is
           (mem 2 (p + 1) 1 K.root.hour K.root.pos (set_number K.root.set) 0 0 (written ss (128 * p) (page_sums bs)) (written cs (128 * p) (page_counts bs))) there.0
           (step_page p 1 K.root.hour K.root.pos (set_number K.root.set) 0 0 ss cs back.sums_length back.counts_length bs there.0 low fit
-          (drawer_named (p + 1) ∙ there.1))
+          (drawer_named K.root.set (p + 1) ∙ there.1))
           (omega (arith, far))
           (at_page (p + 1) there.0 gone ds _ _ d some there.1
           (subst (λ n. ReadBack ds n (written ss (128 * p) (page_sums bs)) (written cs (128 * p) (page_counts bs))) (sym (add-one p)) back₁)) (omega arith))
@@ -459,17 +436,12 @@ module _ (gs : Gauges) (fine : gauges_fine gs ≡ true) (w : World) (i : ℕ) (l
           recalls gs w i lt g P (slot bs) gone gone ds is
           (mem 3 p 1 K.root.hour K.root.pos (set_number K.root.set) 0 0 (written ss (128 * p) (page_sums bs)) (written cs (128 * p) (page_counts bs))) 2
           (step_page_last p 1 K.root.hour K.root.pos (set_number K.root.set) 0 0 ss cs back.sums_length back.counts_length bs low fit
-          (drawer_named (p + 1) ∙ no_page K.root.set (p + 1) last))
+          (drawer_named K.root.set (p + 1) ∙ no_page K.root.set (p + 1) last))
           (lit< tt)
           (subst (λ m. Runs rs ts m (slot (drawer_at ds 2) ∷ []) gone gone ds)
           (λ n. mem 3 p 1 K.root.hour K.root.pos (set_number K.root.set) 0 0 (sym whole.0 n) (sym whole.1 n)) (at_cursor p 1 gone ds d (inr refl) opened))
           (omega arith))
           (cases_lt (p + 1) 8)
-        where
-          no_page : (s : PageSet) (q : ℕ) → 8 ≤ q → page_drawer s q ≡ None
-          no_page page_set.None q le = refl
-          no_page page_set.First q le = cond-false _ _ _ (le-ltb q 8 le)
-          no_page page_set.Second q le = cond-false _ _ _ (le-ltb q 8 le)
 
     -- the cursor is read: the row is read from pos on
     reads_cursor : (ix bg : ℕ) → Is (mem 3 ix bg K.root.hour K.root.pos (set_number K.root.set) 0 0 K.sums K.counts) (slot (drawer_at ds 2)) gone gone ds →
@@ -558,7 +530,7 @@ module _ (gs : Gauges) (fine : gauges_fine gs ≡ true) (w : World) (i : ℕ) (l
     fills ix zero hr ps st ch cc gone ds ss cs b fresh full is = absurd (omega (arith, fresh refl))
     fills ix (suc zero) hr ps st ch cc gone ds ss cs b fresh full is =
         saves hr ps st ch cc gone ds ss cs b 6 ix 0 later is (lit< tt) (λ p d no_page. absurd (omega arith))
-        (λ d e. step_filled ix 1 hr ps st ch cc ss cs b.sums_length b.counts_length d (λ z. omega arith) (shadow_drawer hr ps st ch cc gone ds ss cs b 0 d e)) (omega arith)
+        (λ d e. step_filled ix 1 hr ps st ch cc ss cs b.sums_length b.counts_length d (λ z. omega arith) (shadow_drawer (kept_of ds).root.set st 0 d b.set e)) (omega arith)
     fills ix (suc (suc n)) hr ps st ch cc gone ds ss cs b fresh full is = absurd (omega (arith, at_most_one (suc (suc n)) b.flag))
 
     -- THE NEXT CELL, AFTER A CURSOR

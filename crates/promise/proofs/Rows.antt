@@ -1,9 +1,9 @@
--- Tests over lists; what fine gauges say of each row, what comes of a place in a row, and that where the others are empty one row is all there is.
+-- What fine gauges say of each row, what comes of a place in a row, and that where the others are empty one row is all there is.
 use Rattle.std.proofs.Common.{◌≡◌, ℕ, zero, suc, ◌<◌, ◌≤◌, Bool, true, false, ◌&&◌, eqb, ltb, leb, List, [], ◌∷◌, ◌++◌, length, get_or, drop, refl, ap, ◌∙◌, append-nil, arith}
 use Rattle.std.proofs.lemmas.Bool.{ltb-true, leb-true, and_parts}
 use Rattle.sums.specs.Parts.{no_reading}
 use Rattle.sums.specs.Sums.{or, every, any, none_of, all_of, Gauges, Reading, rising, a_reading, gauges_fine}
-use Rattle.sums.proofs.Everys.{or_true}
+use Rattle.sums.proofs.Everys.{every_at}
 use Rattle.machine.specs.Run.{Event, comes, first_reading, nth_row}
 use Rattle.promise.specs.Promise.{others_empty}
 
@@ -11,33 +11,6 @@ pub none_nil : {A : Type 0} (xs : List A) → none_of xs ≡ true → xs ≡ []
 unfolding none_of
 none_nil [] h = refl
 none_nil (x ∷ xs) h = cc
-
-module _ {A : Type 0} (f : A → Bool) where
-  pub any_front : (xs ys : List A) → any f xs ≡ true → any f (xs ++ ys) ≡ true
-  unfolding any
-  any_front [] ys h = cc
-  any_front (x ∷ xs) ys h = go (f x) h (any_front xs ys)
-    where
-      go : (b : Bool) → or b (any f xs) ≡ true → (any f xs ≡ true → any f (xs ++ ys) ≡ true) → or b (any f (xs ++ ys)) ≡ true
-      go true q k = refl
-      go false q k = k q
-
-  pub any_last : (xs : List A) (x : A) → f x ≡ true → any f (xs ++ x ∷ []) ≡ true
-  unfolding any
-  any_last [] x h = rw h
-  any_last (y ∷ xs) x h = rw (any_last xs x h) (or_true (f y))
-
-  pub any_at : (xs : List A) (i : ℕ) (d : A) → i < length xs → f (get_or xs i d) ≡ true → any f xs ≡ true
-  unfolding any
-  any_at [] i d lt h = absurd (omega arith)
-  any_at (x ∷ xs) zero d lt h = rw h
-  any_at (x ∷ xs) (suc i) d lt h = rw (any_at xs i d (omega arith) h) (or_true (f x))
-
-  pub every_at : (xs : List A) (i : ℕ) (d : A) → i < length xs → every f xs ≡ true → f (get_or xs i d) ≡ true
-  unfolding every
-  every_at [] i d lt h = absurd (omega arith)
-  every_at (x ∷ xs) zero d lt h = (and_parts _ _ h).0
-  every_at (x ∷ xs) (suc i) d lt h = every_at xs i d (omega arith) (and_parts (f x) _ h).1
 
 -- what fine gauges say of a row
 pub record Fine (row : List Reading) : Type 0 where

@@ -11,7 +11,7 @@ use Rattle.sums.specs.Tables.{zero_table, entry_with}
 use Rattle.sums.specs.Written.{written}
 use Rattle.sums.specs.declared.tables.Entry.{Entry}
 use Rattle.sums.proofs.Columns.{length_sums, length_counts}
-use Rattle.sums.proofs.Overwrites.{length_written}
+use Rattle.sums.proofs.Overwrites.{length_written, written_left, written_right}
 use Rattle.store.specs.Records.{root, root_bytes, root_of, cursor, cursor_bytes, cursor_of, set_number, shadow_of}
 use Rattle.store.specs.Drawers.{page_drawer}
 use Rattle.store.specs.Kept.{page_cut}
@@ -49,17 +49,6 @@ set_behind : (xs ys : List ℕ) (n c x : ℕ) → length xs ≡ n → set (xs ++
 set_behind xs ys n c x e =
     let back : n + c - n ≡ c = omega arith in
     set-append_right xs ys n (n + c) x e (omega arith) ∙ ap (λ k. xs ++ set ys k x) back
-
-written_behind : (xs ys zs : List ℕ) (n c : ℕ) → length xs ≡ n → written (xs ++ ys) (n + c) zs ≡ xs ++ written ys c zs
-written_behind xs ys zs n c e =
-    let front : take (n + c) (xs ++ ys) ≡ xs ++ take c ys = rw (← e) (take-append-add xs ys c) in
-    let rest : drop (n + c + length zs) (xs ++ ys) ≡ drop (c + length zs) ys = rw (← e, add_assoc) (drop-append-add xs ys (c + length zs)) in
-    ap₂ (λ l r. l ++ (zs ++ r)) front rest ∙ append_assoc xs (take c ys) (zs ++ drop (c + length zs) ys)
-
-written_before : (xs ys zs : List ℕ) (c : ℕ) → c + length zs ≤ length xs → written (xs ++ ys) c zs ≡ written xs c zs ++ ys
-written_before xs ys zs c le =
-    let here : c ≤ length xs = omega arith in
-    simp (take-append-le c xs ys here, drop-append-le (c + length zs) xs ys le, append_assoc)
 
 -- cell k is the first from c on whose count is not 0, or there is none
 record Found (m : List ℕ) (c k : ℕ) : Type 0 where
@@ -146,8 +135,8 @@ module _ (ix bg hr ps st ch cc : ℕ) (ss cs : List ℕ) (zs : length ss ≡ 102
       let front : List ℕ = ph ∷ ix ∷ bg ∷ hr ∷ ps ∷ st ∷ ch ∷ cc ∷ [] in
       let room : 128 * p + length xs ≤ length ss = omega arith in
       let long : length (front ++ written ss (128 * p) xs) ≡ 1032 = omega (arith, length_written ss (128 * p) xs room) in
-      ap (λ l. written l (1032 + 128 * p) ys) (written_behind front (ss ++ cs) xs 8 (128 * p) refl ∙ ap (λ l. front ++ l) (written_before ss cs xs (128 * p) room))
-      ∙ written_behind (front ++ written ss (128 * p) xs) cs ys 1032 (128 * p) long
+      ap (λ l. written l (1032 + 128 * p) ys) (written_right front (ss ++ cs) (8 + 128 * p) (128 * p) xs refl ∙ ap (λ l. front ++ l) (written_left ss cs (128 * p) xs room))
+      ∙ written_right (front ++ written ss (128 * p) xs) cs (1032 + 128 * p) (128 * p) ys (omega (arith, long))
 
   -- BOOT
   pub step_wakes : (ph i : ℕ) → own.step (mem ph ix bg hr ps st ch cc ss cs) (wakes i) ≡ does (mem asks_root 0 0 0 0 0 0 0 zero_table zero_table) (recall 0)

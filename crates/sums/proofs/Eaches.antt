@@ -1,5 +1,6 @@
--- Lists taken over element by element: their lengths, their elements, more of them and one set.
-use Rattle.std.proofs.Common.{◌≡◌, ℕ, zero, suc, ◌<◌, List, [], ◌∷◌, ◌++◌, length, get_or, set, refl, ap, arith}
+-- Lists taken over element by element: their lengths, their elements, more of them, one set, and their beginnings.
+use Rattle.std.proofs.Common.{◌≡◌, ℕ, zero, suc, ◌+◌, ◌<◌, List, [], ◌∷◌, ◌++◌, length, get_or, take, drop, set, sym, refl, ap, ◌∙◌, arith}
+use Rattle.std.proofs.lemmas.List.{take_more, take-append-drop}
 use Rattle.sums.specs.Sums.{each}
 
 module _ {A B : Type 0} (f : A → B) where
@@ -28,3 +29,13 @@ module _ {A B : Type 0} (f : A → B) where
   each_set [] i x = refl
   each_set (y ∷ xs) zero x = refl
   each_set (y ∷ xs) (suc i) x = ap (λ l. f y ∷ l) (each_set xs i x)
+
+-- a beginning, one longer by the item x
+module _ {A B : Type 0} (f : A → B) (xs : List A) (i : ℕ) (x : A) (is : x ≡ get_or xs i x) (h : i < length xs) where
+  pub each_take : each f (take (i + 1) xs) ≡ each f (take i xs) ++ f x ∷ []
+  unfolding each
+  each_take = ap (each f) (take_more xs i x h) ∙ each_append f (take i xs) (get_or xs i x ∷ []) ∙ ap (λ y. each f (take i xs) ++ f y ∷ []) (sym is)
+
+  pub each_split : each f xs ≡ (each f (take i xs) ++ f x ∷ []) ++ each f (drop (i + 1) xs)
+  each_split =
+      ap (each f) (sym (take-append-drop (i + 1) xs)) ∙ each_append f (take (i + 1) xs) (drop (i + 1) xs) ∙ ap (λ l. l ++ each f (drop (i + 1) xs)) each_take

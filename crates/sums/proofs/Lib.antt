@@ -1,5 +1,7 @@
 pub mod Eaches
 pub mod Everys
+pub mod Anys
+pub mod Those
 pub mod Laws
 pub mod Rising
 pub mod Parts

@@ -8,10 +8,11 @@ use Rattle.std.proofs.lemmas.Option.{slice_get-get_or}
 use Rattle.std.proofs.lemmas.Map.Entries.{btree_map_get_place}
 use Rattle.std.proofs.lemmas.Bool.{eqb-true, eq-eqb, and_parts, and_from, true≢false}
 use Rattle.sums.specs.Sums.{any, every, each, or, ToldSum}
-use Rattle.sums.proofs.Everys.{or_true, every_places}
+use Rattle.sums.proofs.Anys.{or_false, or_left, or_right, any_append}
+use Rattle.sums.proofs.Everys.{every_places, every_each}
 use Rattle.rows.specs.Walls.{row_of, rows_of, in_order, pair_cmp}
-use Rattle.rows.proofs.Summed.{any_append, key_tied, put_tied}
-use Rattle.rows.proofs.Compared.{every_each, rows_order}
+use Rattle.rows.proofs.Summed.{key_tied, put_tied}
+use Rattle.rows.proofs.Compared.{rows_order}
 use Rattle.wall_reader.specs.Reads.{same_row, stands, agrees, Holds}
 
 abbrev row : (h k s : ℕ) → ToldSum
@@ -33,20 +34,10 @@ same_parts t u e =
     let q = and_parts (eqb t.place u.place) (eqb t.sum u.sum) p.1 in
     record { hour = eqb-true _ _ p.0; place = eqb-true _ _ q.0; sum = eqb-true _ _ q.1 }
 
-or_left : (a b : Bool) → a ≡ true → or a b ≡ true
-or_left a b e = ap (λ c. or c b) e
-
-or_right : (a b : Bool) → b ≡ true → or a b ≡ true
-or_right a b e = ap (or a) e ∙ or_true a
-
 -- what stands in the rows and one more
 stands_more : (ts : List ToldSum) (t u : ToldSum) → stands (ts ++ t ∷ []) u ≡ or (stands ts u) (same_row u t)
 unfolding any
-stands_more ts t u = any_append (same_row u) ts (t ∷ []) ∙ ap (or (stands ts u)) (last (same_row u t))
-  where
-    last : (b : Bool) → or b false ≡ b
-    last true = refl
-    last false = refl
+stands_more ts t u = any_append (same_row u) ts (t ∷ []) ∙ ap (or (stands ts u)) (or_false (same_row u t))
 
 -- what holds of all that stands there holds of every row
 pub every_stood : (f : ToldSum → Bool) (ts : List ToldSum) → ((t : ToldSum) → stands ts t ≡ true → f t ≡ true) → every f ts ≡ true

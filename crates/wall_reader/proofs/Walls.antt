@@ -4,7 +4,7 @@ use Rattle.std.specs.List.{find}
 use Rattle.std.proofs.lemmas.Bool.{eq-eqb}
 use Rattle.std.proofs.lemmas.List.{drop_more}
 use Rattle.sums.specs.Sums.{any, every, each, or}
-use Rattle.sums.proofs.Everys.{or_true}
+use Rattle.sums.proofs.Anys.{or_true}
 use Rattle.rows.specs.declared.Row.{Row}
 use Rattle.rows.specs.Walls.{as_told, as_wall}
 use Rattle.wall_reader.specs.Charts.{begins, of_place}

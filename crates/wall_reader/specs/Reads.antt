@@ -1,10 +1,10 @@
 -- The rows of a wall's text as a whole. Assumes nothing: these are definitions.
-use Rattle.std.specs.Prelude.{◌≡◌, ℕ, ◌-◌, ◌<◌, ◌≤◌, Bool, true, false, not, ◌&&◌, List, [], ◌∷◌, ◌++◌, length, take, is_ok, Some, Ok, Err, vec_items, Result, Vec, ◌==◌, nat_eq, slice_index_or}
+use Rattle.std.specs.Prelude.{◌≡◌, ◌↔◌, ℕ, ◌-◌, ◌<◌, ◌≤◌, Bool, true, false, not, ◌&&◌, List, [], ◌∷◌, ◌++◌, length, take, is_ok, Some, Ok, Err, vec_items, Result, Vec, ◌==◌, nat_eq, slice_index_or}
 use Rattle.std.specs.BTreeMap.{BTreeMap}
 use Rattle.std.specs.BTreeMap.{IsOrdered, get}
 use Rattle.sums.specs.Sums.{any, every, or, ToldSum}
 use Rattle.rows.specs.declared.Row.{Row}
-use Rattle.rows.specs.Walls.{as_told, as_wall, in_order, pair_cmp, JustWhen}
+use Rattle.rows.specs.Walls.{as_told, as_wall, in_order, pair_cmp}
 use Rattle.text.specs.Text.{Bytes, whole_lines}
 use Rattle.wall_reader.specs.declared.mistake.Reason.{Reason}
 use Rattle.wall_reader.specs.declared.mistake.WallMistake.{WallMistake}
@@ -73,7 +73,7 @@ ReadSays text (Err Memory) = Unit {0}
 -- the map is in order, and has just the rows that stand among these
 pub record Holds (ts : List ToldSum) (m : BTreeMap (ℕ × ℕ) ℕ) : Type 0 where
   pub ordered : IsOrdered pair_cmp m
-  pub right : (h k s : ℕ) → JustWhen (get pair_cmp m (h, k) ≡ Some s) (stands ts (record { hour = h; place = k; sum = s }) ≡ true)
+  pub right : (h k s : ℕ) → (get pair_cmp m (h, k) ≡ Some s) ↔ (stands ts (record { hour = h; place = k; sum = s }) ≡ true)
 
 -- the map n has one row more than the map m
 abbrev pub RowMore : Row → (m n : BTreeMap (ℕ × ℕ) ℕ) → Type 0

@@ -1,6 +1,7 @@
 -- Letters found and cut out of a list.
 use Rattle.std.proofs.Common.{◌≡◌, ℕ, suc, ◌<◌, ◌≤◌, Bool, true, false, not, List, [], ◌∷◌, length, get_or, cond, Some, None, sym, ◌+◌, one-add, refl, ap, arith}
 use Rattle.std.specs.List.{filter, position, position_or_len, remove}
+use Rattle.std.proofs.lemmas.Option.{cond_some}
 use Rattle.std.proofs.lemmas.Bool.{ltb-true, ltb-false}
 use Rattle.sums.specs.Sums.{each, those, pick}
 use Rattle.machine.specs.Run as run
@@ -21,10 +22,6 @@ none_rest i j (l ∷ ls) none = go (is_between i j l) none (none_rest i j ls)
 no_place : (b : Bool) (p : ℕ) → None ≡ cond b (Some p) None → b ≡ false
 no_place true p e = cc
 no_place false p e = refl
-
-a_place : (b : Bool) (p k : ℕ) → Some k ≡ cond b (Some p) None → (b ≡ true) × (k ≡ p)
-a_place true p k e = (refl, cc)
-a_place false p k e = (cc, cc)
 
 module _ (i j : ℕ) where
   abbrev pub here : Letter → Bool
@@ -70,15 +67,5 @@ module _ (i j : ℕ) where
     pub found_there : (k : ℕ) (y : Letter) → Some k ≡ position here xs → y ≡ get_or ws k y →
         (first_between i j (each as_letter ws) ≡ as_letter y ∷ []) × (each as_letter (remove ws k) ≡ without_first i j (each as_letter ws))
     found_there k y e at =
-        let place = a_place _ _ _ (rw is at e) in
-        (taken_first ws y (ltb-true _ _ place.0) (rw place.1 at at), rw place.1 (taken_rest ws))
-
-pub those_each : {A B : Type 0} (f : A → B) (p : B → Bool) (xs : List A) → each f (filter (λ x. p (f x)) xs) ≡ those p (each f xs)
-unfolding each those
-those_each f p [] = refl
-those_each f p (x ∷ xs) = go (p (f x)) (those_each f p xs)
-  where
-    go : (b : Bool) → each f (filter (λ x. p (f x)) xs) ≡ those p (each f xs) →
-        each f (cond b (x ∷ filter (λ x. p (f x)) xs) (filter (λ x. p (f x)) xs)) ≡ pick b (f x ∷ those p (each f xs)) (those p (each f xs))
-    go true e = ap (λ l. f x ∷ l) e
-    go false e = e
+        let place = cond_some _ _ _ (sym (rw is at e)) in
+        (taken_first ws y (ltb-true _ _ place.0) (rw (← place.1) at at), rw (← place.1) (taken_rest ws))

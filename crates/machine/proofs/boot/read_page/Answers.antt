@@ -9,27 +9,10 @@ use Rattle.sums.specs.Written.{written}
 use Rattle.sums.specs.declared.pages.PageError.{PageError}
 use Rattle.sums.specs.declared.pages.PageError.TheVariants.{ByteLength}
 use Rattle.sums.proofs.Columns.{decoded_length, length_sums, length_counts}
-use Rattle.sums.proofs.Overwrites.{put_mid_written, length_written}
+use Rattle.sums.proofs.Overwrites.{put_mid_written, length_written, written_left, written_right}
 use Rattle.gauge.specs.Memory.{sums_at, counts_at}
 use Rattle.machine.specs.Boot.{page_fits, page_read}
 use Rattle.machine.proofs.boot.read_page.Goals as goal
-
--- a write to one of two lists side by side
-written_left : (xs ys : List ℕ) (at : ℕ) (r : List ℕ) → at + length r ≤ length xs → written (xs ++ ys) at r ≡ written xs at r ++ ys
-written_left xs ys at r le =
-    let before = take-append-le at xs ys (omega arith) in
-    let behind = drop-append-le (at + length r) xs ys le in
-    let one = append_assoc r (drop (at + length r) xs) ys in
-    let all = append_assoc (take at xs) (r ++ drop (at + length r) xs) ys in
-    cc
-
-written_right : (xs ys : List ℕ) (n at : ℕ) (r : List ℕ) → n ≡ length xs + at → written (xs ++ ys) n r ≡ xs ++ written ys at r
-written_right xs ys n at r e =
-    let before = take-append-add xs ys at in
-    let behind = drop-append-add xs ys (at + length r) in
-    let place : n + length r ≡ length xs + (at + length r) = omega arith in
-    let all = append_assoc xs (take at ys) (r ++ drop (at + length r) ys) in
-    cc
 
 -- The memory m split into f and b, and joined again once a page is read into the parts ss and cs of them, which are ss' and cs' then, or is refused.
 module _ (m f b bs ss cs ss' cs' : List ℕ) (p k l : ℕ) (lt : p < pages) (em : m ≡ f ++ b) (ef : length f ≡ counts_at) (eb : length b ≡ places)

@@ -1,11 +1,12 @@
 use Rattle.std.proofs.Common.{◌≡◌, ◌+◌, ◌≤◌, not, get_or, take, drop, sym, ap, ◌∙◌, subst, ap₂, add-zero, zero-add, arith}
 use Rattle.std.proofs.Math.Bool.{not-not}
 use Rattle.std.specs.BTreeSet.{contains}
-use Rattle.std.proofs.lemmas.List.{drop_all, drop_more}
+use Rattle.std.proofs.lemmas.List.{drop_all, drop_more, get_or_default}
 use Rattle.sums.specs.Sums.{pick, each}
 use Rattle.rows.specs.Walls.{as_told, as_wall, pair_cmp, Marks}
 use Rattle.rows.specs.declared.Row.{Row}
-use Rattle.rows.proofs.Walls.{wall_take, no_marks, marked}
+use Rattle.sums.proofs.Eaches.{each_take}
+use Rattle.rows.proofs.Walls.{no_marks, marked}
 use Rattle.promise.specs.Once.{again_after, told_again}
 use Rattle.play.proofs.Counting.{again_step}
 use Rattle.play.proofs.score.told_again.Goals as goal
@@ -27,7 +28,7 @@ loop-row-preserved c =
     let wall = as_wall (take i rows) in
     let rest = as_wall (drop (i + 1) rows) in
     let old = c.loop-row.invariant.0 in
-    let more = wall_take rows i none c.loop-row-test.true in
+    let more = each_take as_told rows i row (get_or_default rows i none row c.loop-row-test.true) c.loop-row-test.true in
     let found = ap not c.in_ok-insert.ensures.added ∙ not-not _ ∙ ap (contains pair_cmp c.loop-row.seen) c.key.ensures ∙ old.right row.hour row.place in
     let counted : c.if-not-branch.again ≡ c.loop-row.again + pick (not new) 1 0 =
     elim c.if-not-branch.branch [

@@ -5,7 +5,7 @@ use Rattle.std.proofs.lemmas.Result.{IfOk-weaker}
 use Rattle.sums.specs.Sums.{those}
 use Rattle.rows.specs.Walls.{as_told, as_wall, in_order}
 use Rattle.rows.proofs.Compared.{order_those}
-use Rattle.rows.proofs.Walls.{those_each}
+use Rattle.sums.proofs.Those.{those_each}
 use Rattle.wall_reader.specs.Filters.{lets_through}
 use Rattle.wall_reader.proofs.asked.chosen.Goals as goal
 
