@@ -2,6 +2,31 @@
 use Rattle.std.specs.Prelude.{ℕ, ◌+◌, ◌*◌, List, take, drop, slice_index}
 use Rattle.sums.specs.Cells.{places, slots}
 
+-- where each cell is, and where the tables begin
+abbrev pub phase_at : ℕ
+phase_at = 0
+
+abbrev pub index_at : ℕ
+index_at = 1
+
+abbrev pub begun_at : ℕ
+begun_at = 2
+
+abbrev pub hour_at : ℕ
+hour_at = 3
+
+abbrev pub pos_at : ℕ
+pos_at = 4
+
+abbrev pub set_at : ℕ
+set_at = 5
+
+abbrev pub cursor_hour_at : ℕ
+cursor_hour_at = 6
+
+abbrev pub cursor_cell_at : ℕ
+cursor_cell_at = 7
+
 abbrev pub sums_at : ℕ
 sums_at = 8
 
@@ -13,33 +38,33 @@ cells = 2056
 
 -- what the machine did last, by the numbers of the phases
 abbrev pub phase_in : List ℕ → ℕ
-phase_in m = slice_index m 0
+phase_in m = slice_index m phase_at
 
 -- the page that is being read or written
 abbrev pub index_in : List ℕ → ℕ
-index_in m = slice_index m 1
+index_in m = slice_index m index_at
 
 -- whether an hour is at hand: 0 or 1
 abbrev pub begun_in : List ℕ → ℕ
-begun_in m = slice_index m 2
+begun_in m = slice_index m begun_at
 
 abbrev pub hour_in : List ℕ → ℕ
-hour_in m = slice_index m 3
+hour_in m = slice_index m hour_at
 
 -- how many readings of the row are in the tables or told
 abbrev pub pos_in : List ℕ → ℕ
-pos_in m = slice_index m 4
+pos_in m = slice_index m pos_at
 
 -- the page set that the root record names: 0 none, 1, 2
 abbrev pub set_in : List ℕ → ℕ
-set_in m = slice_index m 5
+set_in m = slice_index m set_at
 
 -- the cursor: everything of earlier hours is told, and of this hour what is in earlier cells
 abbrev pub cursor_hour_in : List ℕ → ℕ
-cursor_hour_in m = slice_index m 6
+cursor_hour_in m = slice_index m cursor_hour_at
 
 abbrev pub cursor_cell_in : List ℕ → ℕ
-cursor_cell_in m = slice_index m 7
+cursor_cell_in m = slice_index m cursor_cell_at
 
 unfoldable pub sums_in : List ℕ → List ℕ
 sums_in m = take places (drop sums_at m)

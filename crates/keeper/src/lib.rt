@@ -5,8 +5,10 @@ mod disk;
 mod files;
 mod options;
 mod own_gauge;
+mod program;
 mod station;
 mod wall;
 
 pub use options::{Options, Request, UsageError};
+pub use program::run;
 pub use station::Station;

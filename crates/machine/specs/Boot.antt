@@ -7,20 +7,20 @@ use Rattle.store.specs.Records.{root_of, cursor_of, set_number}
 use Rattle.store.specs.Drawers.{root_drawer, cursor_drawer, page_drawer}
 use Rattle.store.specs.declared.records.Root.{Root}
 use Rattle.store.specs.declared.records.PageSet.{PageSet}
-use Rattle.gauge.specs.Memory.{sums_at, counts_at, phase_in, index_in, set_in, asks_root, asks_page, asks_cursor}
+use Rattle.gauge.specs.Memory.{phase_at, index_at, begun_at, hour_at, pos_at, set_at, cursor_hour_at, cursor_cell_at, sums_at, counts_at, phase_in, index_in, set_in, asks_root, asks_page, asks_cursor}
 use Rattle.gauge.specs.Deeds.{recall, rests, Done, does}
 use Rattle.gauge.specs.Gauge.{placed_at, set_named}
 
 -- memory as at the start; the root record is asked for
 abbrev pub woken : List ℕ → Done
-woken m = does (slice_set (replicate (length m) 0) 0 asks_root) (recall root_drawer)
+woken m = does (slice_set (replicate (length m) 0) phase_at asks_root) (recall root_drawer)
 
 abbrev pub root_read : List ℕ → Root → List ℕ
-root_read m r = slice_set (slice_set (slice_set (slice_set m 2 (cond (set_number r.set == 0) 0 1)) 3 r.hour) 4 r.pos) 5 (set_number r.set)
+root_read m r = slice_set (slice_set (slice_set (slice_set m begun_at (cond (set_number r.set == 0) 0 1)) hour_at r.hour) pos_at r.pos) set_at (set_number r.set)
 
 abbrev pub page_asked_in : List ℕ → (page : ℕ) → (drawer : Option ℕ) → Done
-page_asked_in m p (Some d) = does (slice_set (slice_set m 0 asks_page) 1 p) (recall d)
-page_asked_in m p None = does (slice_set m 0 asks_cursor) (recall cursor_drawer)
+page_asked_in m p (Some d) = does (slice_set (slice_set m phase_at asks_page) index_at p) (recall d)
+page_asked_in m p None = does (slice_set m phase_at asks_cursor) (recall cursor_drawer)
 
 -- a page of the root record's set is asked for, or, behind the last, the cursor
 abbrev pub page_asked : List ℕ → PageSet → (page : ℕ) → Done
@@ -45,7 +45,7 @@ page_recalled m bs =
 abbrev pub cursor_recalled : List ℕ → List ℕ → Done
 cursor_recalled m bs =
     cond (nat_lt (cursor_of bs).hour 18446744073709551616 && nat_lt (cursor_of bs).cell 18446744073709551616)
-    (placed_at (slice_set (slice_set m 6 (cursor_of bs).hour) 7 (cursor_of bs).cell))
+    (placed_at (slice_set (slice_set m cursor_hour_at (cursor_of bs).hour) cursor_cell_at (cursor_of bs).cell))
     (does m rests)
 
 -- what a drawer holds, by the phase

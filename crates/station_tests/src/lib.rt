@@ -1,0 +1,88 @@
+// The program `station` as it is asked by words, on real files.
+#![tactic(auto)]
+
+#[cfg(test)]
+mod tests {
+    use std::fs;
+    use std::test::Fail;
+
+    const RIVER: &str = "gauge 0\n10 1 4\n50 2 0\n130 1 7\n170 1 5\n390 1023 4294967295\n";
+
+    const WALL: &str = "hour 0 place 1: 4
+hour 0 place 2: 0
+hour 1 place 1: 12
+hour 3 place 1023: 4294967295
+";
+
+    // A folder with a gauge's file and a folder for drawers, without what an earlier run left there.
+    fn folder(rt: &HostRuntime, name: &str) -> Result<(), Fail> {
+        let heap = rt.alloc();
+        if fs::exists(rt, name)? {
+            fs::remove_dir_all(rt, name)?;
+        }
+        fs::create_dir(rt, name)?;
+        fs::write(rt, format!(in heap; "{name}/gauge")?.as_str(), RIVER)?;
+        fs::create_dir(rt, format!(in heap; "{name}/drawers")?.as_str())?;
+        Ok(())
+    }
+
+    // What the program says of these words and wires; nothing where it ends well.
+    fn said(rt: &HostRuntime, words: &str, wires: &str) -> Result<String, Fail> {
+        let heap = rt.alloc();
+        let mut list = Vec::new(heap);
+        for word in words.split_whitespace() {
+            list.push(format!(in heap; "{word}")?)?;
+        }
+        match keeper::run(rt, list, wires.as_bytes()) {
+            Ok(()) => Ok(String::new(heap)),
+            Err(error) => Ok(format!(in heap; "{error}")?),
+        }
+    }
+
+    const OF_A: &str = "0 --drawers a/drawers --gauge a/gauge --wall a/wall";
+
+    #[test]
+    fn works_without_a_line(rt: HostRuntime) -> Result<(), Fail> {
+        folder(&rt, "a")?;
+        assert!(rt; said(&rt, OF_A, "")?.is_empty());
+        assert!(rt; fs::read_to_string(&rt, "a/wall")?.as_str() == WALL);
+        // all is told, so a second run tells nothing
+        assert!(rt; said(&rt, OF_A, "poke\nfrom 3 0a0b\n")?.is_empty());
+        assert!(rt; fs::read_to_string(&rt, "a/wall")?.as_str() == WALL);
+        Ok(())
+    }
+
+    // The second of the lines is no good; all was told before it was heard.
+    #[test]
+    fn each_line_is_heard(rt: HostRuntime) -> Result<(), Fail> {
+        folder(&rt, "b")?;
+        let words = "--wall b/wall --gauge b/gauge 0 --drawers b/drawers";
+        assert!(rt;
+            said(&rt, words, "poke\npeek\npoke\n")?.as_str()
+                == "wires, line 2: a line is `poke` or begins with `from`"
+        );
+        assert!(rt; fs::read_to_string(&rt, "b/wall")?.as_str() == WALL);
+        Ok(())
+    }
+
+    // Asked for help, it does nothing else.
+    #[test]
+    fn help(rt: HostRuntime) -> Result<(), Fail> {
+        folder(&rt, "c")?;
+        let words = "0 --drawers c/drawers --gauge c/gauge --wall c/wall --help";
+        assert!(rt; said(&rt, words, "peek\n")?.is_empty());
+        assert!(rt; !fs::exists(&rt, "c/wall")?);
+        Ok(())
+    }
+
+    #[test]
+    fn words_that_are_no_good(rt: HostRuntime) -> Result<(), Fail> {
+        folder(&rt, "d")?;
+        let words = "8 --drawers d/drawers --gauge d/gauge --wall d/wall";
+        assert!(rt; said(&rt, words, "")?.as_str() == "a machine's number is 0 to 7");
+        let words = "0 --drawers d/none --gauge d/gauge --wall d/wall";
+        assert!(rt; said(&rt, words, "")?.as_str() == "there is no folder d/none for the drawers");
+        assert!(rt; !fs::exists(&rt, "d/wall")?);
+        Ok(())
+    }
+}
