@@ -1,0 +1,7 @@
+// The program `wall`: the rows of a wall, each once, by hour and place, as they are asked for.
+#![tactic(auto)]
+
+mod chart;
+mod program;
+
+pub use program::{Failure, run};

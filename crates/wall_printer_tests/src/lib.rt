@@ -1,0 +1,117 @@
+// The program `wall` as it is asked by words: what it prints, and what it says where it refuses.
+#![tactic(auto)]
+
+#[cfg(test)]
+mod tests {
+    use std::fs;
+    use std::test::Fail;
+
+    const WALL: &str = "hour 9 place 1: 12
+hour 3 place 2: 7
+hour 10 place 1: 24
+hour 9 place 1: 12
+hour 8 place 1: 0
+";
+
+    // What the program prints for these words, with the wall as its input.
+    fn printed(rt: &HostRuntime, words: &str, wall: &str) -> Result<String, Fail> {
+        let heap = rt.alloc();
+        let mut list = Vec::new(heap);
+        for word in words.split_whitespace() {
+            list.push(format!(in heap; "{word}")?)?;
+        }
+        let mut out = Vec::new(heap);
+        let mut input = wall.as_bytes();
+        match wall_printer::run(rt, list, &mut input, &mut out) {
+            Ok(()) => Ok(String::from_utf8(out)?),
+            Err(failure) => Ok(format!(in heap; "refused: {failure}")?),
+        }
+    }
+
+    #[test]
+    fn rows(rt: HostRuntime) -> Result<(), Fail> {
+        let all = "hour 3 place 2: 7
+hour 8 place 1: 0
+hour 9 place 1: 12
+hour 10 place 1: 24
+";
+        assert_eq!(rt; printed(&rt, "", WALL)?.as_str(), all);
+        let some = "hour 9 place 1: 12\n";
+        assert_eq!(rt; printed(&rt, "--hour 9", WALL)?.as_str(), some);
+        let some = "hour 8 place 1: 0\nhour 9 place 1: 12\n";
+        assert_eq!(rt; printed(&rt, "--hours 4..10", WALL)?.as_str(), some);
+        assert_eq!(rt; printed(&rt, "--place 2 --hour 9", WALL)?.as_str(), "");
+        Ok(())
+    }
+
+    #[test]
+    fn comma_separated(rt: HostRuntime) -> Result<(), Fail> {
+        assert_eq!(rt;
+            printed(&rt, "--place 1 --csv", WALL)?.as_str(),
+            "hour,place,sum\n8,1,0\n9,1,12\n10,1,24\n"
+        );
+        Ok(())
+    }
+
+    #[test]
+    fn a_chart(rt: HostRuntime) -> Result<(), Fail> {
+        let half = "#########################";
+        let chart = format!(in rt.alloc(); " 8 | 0\n 9 |{half} 12\n10 |{half}{half} 24\n")?;
+        assert_eq!(rt;
+            printed(&rt, "--chart --place 1", WALL)?.as_str(),
+            chart.as_str()
+        );
+        assert_eq!(rt;
+            printed(&rt, "--chart", WALL)?.as_str(),
+            "refused: a chart is of one place, and here are places 2 and 1"
+        );
+        Ok(())
+    }
+
+    // A line without its end is no row.
+    #[test]
+    fn a_torn_wall(rt: HostRuntime) -> Result<(), Fail> {
+        let torn = "hour 1 place 1: 5\nhour 2 place 1: 3";
+        assert_eq!(rt; printed(&rt, "", torn)?.as_str(), "hour 1 place 1: 5\n");
+        assert_eq!(rt; printed(&rt, "", "")?.as_str(), "");
+        Ok(())
+    }
+
+    #[test]
+    fn a_wall_in_a_file(rt: HostRuntime) -> Result<(), Fail> {
+        fs::write(&rt, "some-wall", "hour 7 place 0: 1\n")?;
+        assert_eq!(rt;
+            printed(&rt, "some-wall", WALL)?.as_str(),
+            "hour 7 place 0: 1\n"
+        );
+        assert!(rt;
+            printed(&rt, "no-wall", WALL)?
+                .as_str()
+                .starts_with("refused: no-wall cannot be read: ")
+        );
+        Ok(())
+    }
+
+    #[test]
+    fn refused(rt: HostRuntime) -> Result<(), Fail> {
+        assert!(rt;
+            printed(&rt, "--place 1 --help", WALL)?
+                .as_str()
+                .starts_with("usage: wall")
+        );
+        assert_eq!(rt;
+            printed(&rt, "--hour", WALL)?.as_str(),
+            "refused: --hour: its value is missing"
+        );
+        let twice = "hour 1 place 1: 5\nhour 1 place 1: 6\n";
+        assert_eq!(rt;
+            printed(&rt, "", twice)?.as_str(),
+            "refused: line 2: hour 1 place 1 is 6 here and 5 above"
+        );
+        assert_eq!(rt;
+            printed(&rt, "--chart", "")?.as_str(),
+            "refused: there are no rows to chart"
+        );
+        Ok(())
+    }
+}
