@@ -15,13 +15,18 @@ hour 8 place 1: 0
 
     // What the program prints for these words, with the wall as its input.
     fn printed(rt: &HostRuntime, words: &str, wall: &str) -> Result<String, Fail> {
+        printed_of(rt, words, wall.as_bytes())
+    }
+
+    // The same of a wall of any bytes.
+    fn printed_of(rt: &HostRuntime, words: &str, wall: &[u8]) -> Result<String, Fail> {
         let heap = rt.alloc();
         let mut list = Vec::new(heap);
         for word in words.split_whitespace() {
             list.push(format!(in heap; "{word}")?)?;
         }
         let mut out = Vec::new(heap);
-        let mut input = wall.as_bytes();
+        let mut input = wall;
         match wall_printer::run(rt, list, &mut input, &mut out) {
             Ok(()) => Ok(String::from_utf8(out)?),
             Err(failure) => Ok(format!(in heap; "refused: {failure}")?),
@@ -102,6 +107,15 @@ hour 10 place 1: 24
         assert_eq!(rt;
             printed(&rt, "--hour", WALL)?.as_str(),
             "refused: --hour: its value is missing"
+        );
+        assert_eq!(rt;
+            printed(&rt, "--place 1 --hour x", WALL)?.as_str(),
+            "refused: x: this is not a number below 2^64"
+        );
+        assert!(rt;
+            printed_of(&rt, "", b"hour 1 place 1: 5\n\xff\n")?
+                .as_str()
+                .starts_with("refused: standard input cannot be read: ")
         );
         let twice = "hour 1 place 1: 5\nhour 1 place 1: 6\n";
         assert_eq!(rt;
