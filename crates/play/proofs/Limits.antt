@@ -1,9 +1,9 @@
 -- Items within their limits stay so, with calm written out and with strokes put in; so such a river can be read back.
-use Rattle.std.proofs.Common.{◌≡◌, ℕ, zero, suc, Bool, true, ◌&&◌, List, [], ◌∷◌, ◌++◌, take, drop, nat_lt, nat_le, Option, Some, None, refl, sym, true≢false}
-use Rattle.std.specs.Option.{option_map}
+use Rattle.std.proofs.Common.{◌≡◌, ℕ, zero, suc, Bool, true, List, [], ◌∷◌, ◌++◌, take, drop, length, get_or, ◌<◌, nat_lt, nat_le, refl, sym, ap, ◌∙◌, true≢false}
+use Rattle.std.proofs.lemmas.List.{take-append-drop}
 use Rattle.std.proofs.lemmas.Bool.{and_from, and_parts}
 use Rattle.sums.specs.Sums.{every}
-use Rattle.sums.proofs.Everys.{every_append}
+use Rattle.sums.proofs.Everys.{every_append, every_at}
 use Rattle.machine.specs.Run as run
 use Rattle.machine.specs.Run.{works, poke, brings, falls, up_to}
 use Rattle.river.specs.Fine.{item_fine}
@@ -11,6 +11,7 @@ use Rattle.river.specs.declared.model.Item.{Item}
 use Rattle.river.specs.declared.model.Item.TheVariants.{Works, Poke, Brings, Falls, Calm}
 use Rattle.world.specs.Rounds.{in_turn, letters_to, pokes, a_round, all_rounds, written_out}
 use Rattle.play.specs.Plays.{unrolled, is_plain}
+use Rattle.play.specs.Courses.{acts_fine, strokes}
 
 -- the limits of what happens, by those of the item that says it
 abbrev pub limited : run.Item → Bool
@@ -25,7 +26,7 @@ unfolding in_turn every
 turns_limited f h [] e = refl
 turns_limited f h (i ∷ is) e = let both = and_parts (nat_lt i 8) _ e in every_append limited (f i) (in_turn f is) (h i both.0) (turns_limited f h is both.1)
 
-module _ (n : ℕ) (few : nat_le n 4294967296 ≡ true) where
+module _ (n : ℕ) (few : acts_fine n ≡ true) where
   each_limited : (f : ℕ → List run.Item) → ((i : ℕ) → nat_lt i 8 ≡ true → every limited (f i) ≡ true) → every limited (in_turn f (up_to 8)) ≡ true
   unfolding up_to every
   each_limited f h = turns_limited f h (up_to 8) refl
@@ -66,3 +67,21 @@ plain_fine (Poke i ∷ its) p e = let both = and_parts (item_fine (Poke i)) _ e 
 plain_fine (Brings i j ∷ its) p e = let both = and_parts (item_fine (Brings i j)) _ e in and_from _ _ both.0 (plain_fine its p both.1)
 plain_fine (Falls i ∷ its) p e = let both = and_parts (item_fine (Falls i)) _ e in and_from _ _ both.0 (plain_fine its p both.1)
 plain_fine (Calm k n ∷ its) p e = absurd (true≢false (sym p))
+
+every_parts : {A : Type 0} (f : A → Bool) (xs ys : List A) → every f (xs ++ ys) ≡ true → (every f xs ≡ true) × (every f ys ≡ true)
+unfolding every
+every_parts f [] ys e = (refl, e)
+every_parts f (x ∷ xs) ys e = let p = and_parts (f x) _ e in let q = every_parts f xs ys p.1 in (and_from (f x) _ p.0 q.0, q.1)
+
+strokes_fine : (m : ℕ) → nat_lt m 8 ≡ true → (ts : List ℕ) → every acts_fine ts ≡ true → every item_fine (strokes m ts) ≡ true
+unfolding strokes every
+strokes_fine m l [] e = refl
+strokes_fine m l (t ∷ ts) e = let p = and_parts (acts_fine t) _ e in and_from _ _ (and_from (nat_lt m 8) _ l p.0) (and_from _ _ l (strokes_fine m l ts p.1))
+
+pub struck_fine : (its : List Item) (k m n : ℕ) (ts : List ℕ) (d : Item) → k < length its → get_or its k d ≡ Works m n → every item_fine its ≡ true → every acts_fine ts ≡ true →
+    every item_fine ((take k its ++ strokes m ts) ++ drop k its) ≡ true
+struck_fine its k m n ts d lt is e few =
+    let p = every_parts item_fine (take k its) (drop k its) (ap (every item_fine) (take-append-drop k its) ∙ e) in
+    let one : item_fine (Works m n) ≡ true = ap item_fine (sym is) ∙ every_at item_fine its k d lt e in
+    let put = strokes_fine m (and_parts (nat_lt m 8) _ one).0 ts few in
+    every_append item_fine (take k its ++ strokes m ts) (drop k its) (every_append item_fine (take k its) (strokes m ts) p.0 put) p.1

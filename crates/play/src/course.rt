@@ -4,7 +4,7 @@ ghost use Rattle.sums.specs.Sums.{every};
 ghost use Rattle.river.specs.Fine.{item_fine};
 ghost use Rattle.world.specs.Rounds.{pokes, letters_to, a_round, all_rounds, written_out};
 ghost use Rattle.play.specs.Plays.{unrolled, is_plain};
-ghost use Rattle.play.specs.Courses.{Grown, StruckSays};
+ghost use Rattle.play.specs.Courses.{Grown, StruckSays, acts_fine};
 ghost use Rattle.play.specs.declared.course.StrikeError.TheVariants.{Memory};
 
 use machine::MACHINES;
@@ -109,7 +109,8 @@ pub fn struck(
     k: usize,
     strokes: &[u64],
 ) -> Result<Vec<Item>, StrikeError>
-    ensures { StruckSays items.now k strokes.now result }
+    ensures says { StruckSays items.now k strokes.now result }
+    ensures fine { IfOk result (λ v. every item_fine items.now ≡ true → every acts_fine strokes.now ≡ true → every item_fine v.items ≡ true) }
 {
     if k >= items.len() {
         return Err(StrikeError::NotWorks);
