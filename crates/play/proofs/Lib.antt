@@ -3,3 +3,4 @@ mod Growing
 mod Striking
 mod Counting
 mod Strokes
+mod Limits

@@ -1,10 +1,11 @@
 -- What happens, with more put in: calm written out, and strokes. Assumes nothing: these are definitions.
-use Rattle.std.specs.Prelude.{◌≡◌, ℕ, true, List, [], ◌∷◌, ◌++◌, take, drop, Some, None, Ok, Err, vec_items, Option, Result, Vec}
+use Rattle.std.specs.Prelude.{◌≡◌, ℕ, Bool, true, List, [], ◌∷◌, ◌++◌, take, drop, Some, None, Ok, Err, vec_items, Option, Result, Vec}
 use Rattle.std.specs.Option.{option_map}
 use Rattle.sums.specs.Sums.{every}
 use Rattle.machine.specs.Run as run
 use Rattle.river.specs.declared.model.Item.{Item}
 use Rattle.river.specs.declared.model.Item.TheVariants.{Works, Poke, Brings, Falls, Calm}
+use Rattle.river.specs.Fine.{item_fine}
 use Rattle.play.specs.Plays.{unrolled, is_plain}
 use Rattle.play.specs.declared.course.StrikeError.{StrikeError}
 use Rattle.play.specs.declared.course.StrikeError.TheVariants.{NotWorks, Memory}
@@ -36,3 +37,7 @@ abbrev pub StruckSays : {Z : Type 0} → List Item → ℕ → List ℕ → Resu
 StruckSays its k ts (Ok v) = struck_at its k ts ≡ Some (vec_items v)
 StruckSays its k ts (Err NotWorks) = struck_at its k ts ≡ None
 StruckSays its k ts (Err Memory) = Unit {0}
+
+-- so many acts are within the limits of an item
+abbrev pub acts_fine : ℕ → Bool
+acts_fine n = item_fine (Works 0 n)

@@ -1,9 +1,10 @@
 // What happens in a river: calm written out, and strokes put in.
 ghost use Rattle.std.specs.Prelude.{◌≡◌, true, IfOk, OnOk};
 ghost use Rattle.sums.specs.Sums.{every};
+ghost use Rattle.river.specs.Fine.{item_fine};
 ghost use Rattle.world.specs.Rounds.{pokes, letters_to, a_round, all_rounds, written_out};
 ghost use Rattle.play.specs.Plays.{unrolled, is_plain};
-ghost use Rattle.play.specs.Courses.{Grown, StruckSays};
+ghost use Rattle.play.specs.Courses.{Grown, StruckSays, acts_fine};
 ghost use Rattle.play.specs.declared.course.StrikeError.TheVariants.{Memory};
 
 use machine::MACHINES;
@@ -67,6 +68,7 @@ fn add_plain(items: &mut Vec<Item>, item: Item) -> Result<(), AllocError>
 pub fn plain(heap: Global, items: &[Item]) -> Result<Vec<Item>, AllocError>
     ensures same { IfOk result (λ v. unrolled v.items ≡ unrolled items.now) }
     ensures plain { IfOk result (λ v. every is_plain v.items ≡ true) }
+    ensures fine { IfOk result (λ v. every item_fine items.now ≡ true → every item_fine v.items ≡ true) }
 {
     let mut out = Vec::new(heap);
     for item in items {
@@ -107,7 +109,8 @@ pub fn struck(
     k: usize,
     strokes: &[u64],
 ) -> Result<Vec<Item>, StrikeError>
-    ensures { StruckSays items.now k strokes.now result }
+    ensures says { StruckSays items.now k strokes.now result }
+    ensures fine { IfOk result (λ v. every item_fine items.now ≡ true → every acts_fine strokes.now ≡ true → every item_fine v.items ≡ true) }
 {
     if k >= items.len() {
         return Err(StrikeError::NotWorks);

@@ -9,6 +9,6 @@ pub mod verdict;
 
 pub use course::{StrikeError, plain, struck};
 pub use playing::play;
-pub use score::{Ratio, acts_of, strokes_in, told_again};
+pub use score::{Ratio, acts_of, strokes_of, told_again};
 pub use trials::{Outcome, Score, count_readings, trial};
 pub use verdict::{Judgement, Verdict, judge};

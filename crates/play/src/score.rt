@@ -5,7 +5,7 @@ ghost use Rattle.machine.specs.Entry.{own};
 ghost use Rattle.machine.specs.Run.{new_world};
 ghost use Rattle.rows.specs.Walls.{as_wall};
 ghost use Rattle.world.specs.Tallies.{none_counted};
-ghost use Rattle.promise.specs.Once.{told_again, strokes_in};
+ghost use Rattle.promise.specs.Once.{told_again, strokes_of};
 ghost use Rattle.play.specs.Plays.{unrolled};
 ghost use Rattle.play.specs.Scores.{acts_of_each};
 
@@ -50,11 +50,13 @@ pub fn told_again(heap: Global, told: &[Row]) -> Result<u64, AllocError>
     Ok(again)
 }
 
-// How many strokes of lightning there are; in calm there is none.
-pub fn strokes_in(items: &[Item]) -> u64
-    ensures { result ≡ strokes_in (unrolled items.now) }
+// How often lightning strikes a machine; in calm it strikes none.
+pub fn strokes_of(items: &[Item], machine: u64) -> u64
+    ensures { result ≡ strokes_of machine (unrolled items.now) }
 {
-    let strokes = items.iter().filter(|item| matches!(item, Item::Falls(_)));
+    let strokes = items.iter().filter(
+        |item| matches!(item, Item::Falls(struck) if *struck == machine),
+    );
     strokes.count() as u64
 }
 

@@ -11,7 +11,7 @@ ghost use Rattle.play.specs.Verdicts.{verdict_of};
 ghost use Rattle.play.specs.declared.verdict.Verdict.TheVariants.{Untold as NotAll, Right as AllRight};
 
 use crate::playing::play;
-use crate::score::{strokes_in, told_again};
+use crate::score::{strokes_of, told_again};
 use crate::verdict::{Judgement, Verdict, judge};
 use river::Item;
 use rows::WallError;
@@ -19,6 +19,9 @@ use std::alloc::Global;
 use std::fmt;
 use sums::Reading;
 use world::World;
+
+// The machine that tells: the only one, as long as the other gauges have no readings.
+const TELLER: u64 = 0;
 
 #[derive(Clone, Copy, PartialEq, Eq, Debug)]
 pub struct Score {
@@ -28,7 +31,7 @@ pub struct Score {
     // How many rows are on the walls, and how many of them were told before.
     pub told: u64,
     pub again: u64,
-    // On how many walls more rows were told before than there were strokes.
+    // On how many walls more rows were told before than there were strokes on the machine that tells.
     pub too_often: u64,
     pub wrong: u64,
     pub untold: u64,
@@ -121,7 +124,7 @@ fn outcome_of(
         readings: count_readings(gauges),
         told: world.told.len() as u64,
         again,
-        too_often: u64::from(again > strokes_in(items)),
+        too_often: u64::from(again > strokes_of(items, TELLER)),
         wrong: comparison.wrong,
         untold: comparison.untold.len() as u64,
         faults: u64::from(world.fault),

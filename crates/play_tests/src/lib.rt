@@ -82,6 +82,21 @@ mod tests {
         Ok(())
     }
 
+    // A stroke on one machine is none on another, and in calm there is none.
+    #[test]
+    fn strokes_of_one_machine(rt: HostRuntime) {
+        let items = [
+            Item::Falls(3),
+            Item::Works(0, 9),
+            Item::Falls(0),
+            Item::Falls(3),
+            Item::Calm(2, 7),
+        ];
+        assert_eq!(rt; play::strokes_of(&items, 0), 1);
+        assert_eq!(rt; play::strokes_of(&items, 1), 0);
+        assert_eq!(rt; play::strokes_of(&items, 3), 2);
+    }
+
     // Struck after every act of its first turn: right each time, and a row is told again at most once.
     #[test]
     fn struck_rivers_are_right(rt: HostRuntime) -> Result<(), Fail> {

@@ -3,7 +3,7 @@ use Rattle.std.proofs.Common.{◌≡◌, ℕ, zero, suc, ◌+◌, ◌-◌, ◌*�
 use Rattle.std.proofs.lemmas.Bool.{cases_eq, cases_lt, eq-eqb, ne_eqb, eqb-true, lt-ltb, le-ltb, and_parts, cond-true, cond-false}
 use Rattle.sums.specs.Cells.{cell_of, place_of}
 use Rattle.sums.specs.Parts.{no_reading}
-use Rattle.sums.specs.Sums.{pick, or, Reading, any, belongs, ToldSum, has_told}
+use Rattle.sums.specs.Sums.{pick, Reading, belongs, ToldSum, has_told}
 use Rattle.sums.proofs.Anys.{any_place, any_split}
 use Rattle.sums.proofs.Places.{cell_back, cell_fits}
 use Rattle.sums.proofs.Rising.{rising_hour}

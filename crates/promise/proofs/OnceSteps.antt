@@ -1,7 +1,7 @@
 -- What a machine keeps in mind of what it told, by its memory and its drawers; each step of it keeps this so.
-use Rattle.std.proofs.Common.{◌≡◌, ℕ, zero, suc, ◌+◌, ◌*◌, ◌<◌, ◌≤◌, true, ◌⊎◌, List, [], ◌∷◌, ◌++◌, length, get_or, set, Some, None, Ok, sym, refl, ap, ◌∙◌, subst, inl, inr, ⊎_elim, arith, lit<}
-use Rattle.std.proofs.lemmas.Bool.{le-ltb, cond-false, cases_lt, cases_eq}
-use Rattle.sums.specs.Cells.{places, pages, cell_of, place_of}
+use Rattle.std.proofs.Common.{◌≡◌, ℕ, zero, suc, ◌+◌, ◌*◌, ◌<◌, ◌≤◌, true, ◌⊎◌, List, [], ◌∷◌, ◌++◌, length, get_or, set, Some, Ok, sym, refl, ap, ◌∙◌, subst, inl, inr, ⊎_elim, arith, lit<}
+use Rattle.std.proofs.lemmas.Bool.{cases_lt, cases_eq}
+use Rattle.sums.specs.Cells.{pages, cell_of, place_of}
 use Rattle.sums.specs.Parts.{no_reading}
 use Rattle.sums.specs.Pages.{page_sums, page_counts}
 use Rattle.sums.specs.Sums.{Reading, ToldSum, hour_of}
@@ -20,7 +20,7 @@ use Rattle.store.proofs.Boots.{boot_law}
 use Rattle.store.proofs.Checkpoints.{shadow_other, commit, blank, cursor_alone}
 use Rattle.store.proofs.Numbered.{page_has_drawer, page_within, no_page, none_or_some, some_numbered}
 use Rattle.gauge.specs.Memory.{phase_in, begun_in, hour_in, pos_in, cursor_hour_in, cursor_cell_in}
-use Rattle.gauge.specs.Gauge.{tell_next, next_cell, set_named}
+use Rattle.gauge.specs.Gauge.{tell_next, next_cell}
 use Rattle.machine.specs.Run.{Step, Act, more, from, let_go, sends, keep, recall, tells, rests, Event, wakes, comes, later, ends, slot, next}
 use Rattle.machine.specs.Machine.{as_step}
 use Rattle.machine.specs.Boot.{page_fits}
@@ -130,8 +130,8 @@ module _ (rs : List Reading) (ts : List ToldSum) where
     }
 
   -- one stroke more, and one less that may still come
-  pub fell : (s : ℕ) (m n : List ℕ) (k : Kept) → phase_in n ≤ 2 → Once s m k → Once (suc s) n k
-  fell s m n k le o = asks (suc s) k n le (record {
+  pub fell : (s : ℕ) (m n : List ℕ) (k : Kept) → phase_in n ≤ 2 → Once s m k → Once (s + 1) n k
+  fell s m n k le o = asks (s + 1) k n le (record {
     low = o.low;
     marked = o.marked;
     owed = ⊎_elim
@@ -139,17 +139,6 @@ module _ (rs : List Reading) (ts : List ToldSum) where
         (λ (ne : phase_in m ≡ 9 → ⊥). ⊎_elim (λ a. inl (a.0, omega (arith, a.1))) (λ b. inr (omega arith)) (o.owed ne))
         (cases_eq (phase_in m) 9);
   })
-
-  -- a stroke elsewhere
-  pub once_more : (s : ℕ) (m : List ℕ) (k : Kept) → Once s m k → Once (suc s) m k
-  once_more s m k o = record {
-    low = o.low;
-    marked = o.marked;
-    hands = o.hands;
-    cursors = o.cursors;
-    owed = λ ne. ⊎_elim (λ a. inl (a.0, omega (arith, a.1))) (λ b. inr (omega arith)) (o.owed ne);
-    fresh = λ e. let f = o.fresh e in (f.0, omega (arith, f.1), f.2);
-  }
 
   -- told again at most so often
   pub once_few : (s : ℕ) (m : List ℕ) (k : Kept) → Once s m k → told_again ts ≤ s

@@ -1,8 +1,8 @@
 -- How often rows stand on the wall: what is known of the first machine holds through all that happens, by the strokes so far; the others tell nothing.
-use Rattle.std.proofs.Common.{◌≡◌, ℕ, zero, suc, ◌+◌, ◌<◌, ◌≤◌, true, false, List, [], ◌∷◌, ◌++◌, length, sym, refl, ap, ◌∙◌, subst, inl, ⊎_elim, arith, lit<}
-use Rattle.std.proofs.lemmas.Bool.{both_ways, cases_lt}
+use Rattle.std.proofs.Common.{◌≡◌, ℕ, zero, suc, ◌+◌, ◌<◌, ◌≤◌, true, false, List, [], ◌∷◌, ◌++◌, length, sym, refl, ap, ◌∙◌, subst, inl, ⊎_elim, arith, lit<, ◌==◌}
+use Rattle.std.proofs.lemmas.Bool.{both_ways, cases_lt, ne_eqb}
 use Rattle.sums.proofs.Taken.{zeros_length}
-use Rattle.sums.specs.Sums.{Reading, Gauges, ToldSum, any, gauges_fine}
+use Rattle.sums.specs.Sums.{Reading, Gauges, ToldSum, any, gauges_fine, pick}
 use Rattle.sums.specs.Tables.{zero_table}
 use Rattle.sums.proofs.Rising.{rising_hour}
 use Rattle.store.specs.Drawers.{Drawers, drawer_at}
@@ -16,7 +16,7 @@ use Rattle.machine.specs.Run.{World, Machine, machine_at, set_nth, nth_row, with
 use Rattle.machine.specs.Run.{goes, poked, delivered, fallen, new_world, so_many_of, Step, Act, more, from, let_go, sends, keep, recall, tells, rests}
 use Rattle.machine.specs.Entry.{own}
 use Rattle.promise.specs.Promise.{core, others_empty}
-use Rattle.promise.specs.Once.{ToldOnce, again_after, told_again, strokes_in}
+use Rattle.promise.specs.Once.{ToldOnce, again_after, told_again, strokes_of}
 use Rattle.promise.proofs.Acts.{on_more, on_poked, state, with_event}
 use Rattle.promise.proofs.Calm.{delivered_none}
 use Rattle.promise.proofs.Core.{keeps_good, start_good, so_many, empty_kept}
@@ -25,7 +25,7 @@ use Rattle.promise.proofs.Induction.{pick_both, by_each_good}
 use Rattle.promise.proofs.Knows.{hour_at, IsTold, Open}
 use Rattle.promise.proofs.Machines.{at_set_same, at_set_all, at_set_other, machine_past, none_and_some}
 use Rattle.promise.proofs.Once.{hand, hand_in}
-use Rattle.promise.proofs.OnceSteps.{first_same, Once, Waits, AfterAct, steps_once, asks, fell, once_more, once_few}
+use Rattle.promise.proofs.OnceSteps.{first_same, Once, Waits, AfterAct, steps_once, asks, fell, once_few}
 use Rattle.promise.proofs.Phases.{at_most_one}
 use Rattle.promise.proofs.Rows.{row_fine, row_empty}
 use Rattle.promise.proofs.Runs.{Drawn, Booted, Runs, waking, at_root, at_page, at_cursor, at_rooted, at_placed, at_released, at_comes, at_ends, at_later, at_saved, at_told, at_noted, at_closed, at_done}
@@ -236,27 +236,29 @@ module _ (gs : Gauges) (fine : gauges_fine gs ≡ true) (known : core gs ≡ tru
     calm_once zero n w o = o
     calm_once (suc r) n w o = calm_once r n (round n own gs w) (round_once n w o)
 
-  -- a stroke
+  -- a stroke, which on another machine leaves the first as it is
   asleep_now : phase_in own.start ≤ 2
   asleep_now = let e : phase_in own.start ≡ 0 = ap phase_in start_mem in omega arith
 
-  fell_once : (s : ℕ) (w : World) (i : ℕ) → OnceIn s w → OnceIn (suc s) (fallen own w i)
-  fell_once s w i o = record {
-    good = (keeps_good gs fine known).falls_down w i o.good;
-    first = at_set_all w.machines i 0 _ (First gs (suc s) w.told)
-        (λ e. let x = machine_at w.machines i in
-        fell (nth_row gs 0) w.told s x.memory own.start (kept_of x.slots) asleep_now (subst (λ n. First gs s w.told (machine_at w.machines n)) (sym e) o.first))
-        (once_more (nth_row gs 0) w.told s _ _ o.first);
-  }
+  fell_first : (s : ℕ) (w : World) (i : ℕ) → OnceIn s w → FirstIn gs (s + pick (i == 0) 1 0) (fallen own w i)
+  fell_first s w zero o =
+      let x = machine_at w.machines 0 in
+      subst (First gs (s + 1) w.told) (sym (at_set_same w.machines 0 _ (omega (arith, o.good.eight)))) (fell (nth_row gs 0) w.told s x.memory own.start (kept_of x.slots) asleep_now o.first)
+  fell_first s w (suc j) o =
+      let none : pick (suc j == 0) 1 0 ≡ zero = ap (λ b. pick b 1 0) (ne_eqb (suc j) 0 (λ z. omega arith)) in
+      subst (λ n. FirstIn gs n (fallen own w (suc j))) (omega (arith, none)) (subst (First gs s w.told) (sym (at_set_other w.machines (suc j) 0 _ (λ z. omega arith))) o.first)
+
+  fell_once : (s : ℕ) (w : World) (i : ℕ) → OnceIn s w → OnceIn (s + pick (i == 0) 1 0) (fallen own w i)
+  fell_once s w i o = record { good = (keeps_good gs fine known).falls_down w i o.good; first = fell_first s w i o }
 
   -- all that happens
-  all_once : (is : List Item) (s : ℕ) (w : World) → OnceIn s w → OnceIn (s + strokes_in is) (all_happened own gs w is)
-  unfolding all_happened happened strokes_in
+  all_once : (is : List Item) (s : ℕ) (w : World) → OnceIn s w → OnceIn (s + strokes_of 0 is) (all_happened own gs w is)
+  unfolding all_happened happened strokes_of
   all_once [] s w o = subst (λ n. OnceIn n w) (omega arith) o
   all_once (works i n ∷ is) s w o = all_once is s _ (goes_once s n w i o)
   all_once (poke i ∷ is) s w o = all_once is s _ (pokes s w i o)
   all_once (brings i j ∷ is) s w o = all_once is s _ (delivers s w i j o)
-  all_once (falls i ∷ is) s w o = subst (λ n. OnceIn n (all_happened own gs (fallen own w i) is)) (omega arith) (all_once is (suc s) _ (fell_once s w i o))
+  all_once (falls i ∷ is) s w o = subst (λ n. OnceIn n (all_happened own gs (fallen own w i) is)) (omega arith) (all_once is (s + pick (i == 0) 1 0) _ (fell_once s w i o))
 
   -- the world at the start
   start_once : OnceIn 0 (new_world own)
@@ -287,5 +289,5 @@ module _ (gs : Gauges) (fine : gauges_fine gs ≡ true) (known : core gs ≡ tru
 pub told_once : ToldOnce
 unfolding ToldOnce
 told_once gs is k n fine known =
-    let o = calm_once gs fine known (0 + strokes_in is) k n _ (all_once gs fine known is 0 (new_world own) (start_once gs fine known)) in
-    omega (arith, once_few (nth_row gs 0) _ (0 + strokes_in is) _ _ o.first)
+    let o = calm_once gs fine known (0 + strokes_of 0 is) k n _ (all_once gs fine known is 0 (new_world own) (start_once gs fine known)) in
+    omega (arith, once_few (nth_row gs 0) _ (0 + strokes_of 0 is) _ _ o.first)

@@ -1,8 +1,8 @@
 -- Each step of a machine that runs as it should leaves one, with fewer acts left.
-use Rattle.std.proofs.Common.{◌≡◌, ℕ, zero, suc, ◌+◌, ◌-◌, ◌*◌, ◌<◌, ◌≤◌, true, ◌⊎◌, List, [], ◌∷◌, ◌++◌, length, get_or, set, Some, None, Ok, sym, refl, ap, ◌∙◌, subst, inl, inr, ⊎_elim, add-one, arith, lit<}
+use Rattle.std.proofs.Common.{◌≡◌, ℕ, zero, suc, ◌+◌, ◌-◌, ◌*◌, ◌<◌, ◌≤◌, true, ◌⊎◌, List, [], ◌∷◌, ◌++◌, length, get_or, set, Some, Ok, sym, refl, ap, ◌∙◌, subst, inl, inr, ⊎_elim, add-one, arith, lit<}
 use Rattle.std.proofs.lemmas.List.{length-set}
-use Rattle.std.proofs.lemmas.Bool.{and_from, and_parts, eq-eqb, eqb-true, le-ltb, cond-true, cond-false, cases_lt, cases_eq}
-use Rattle.sums.specs.Cells.{places, pages, cell_of, place_of}
+use Rattle.std.proofs.lemmas.Bool.{and_from, and_parts, eq-eqb, eqb-true, cond-true, cases_lt, cases_eq}
+use Rattle.sums.specs.Cells.{pages, cell_of, place_of}
 use Rattle.sums.specs.Parts.{no_reading}
 use Rattle.sums.specs.Sums.{Reading, Gauges, ToldSum, hour_of, is_right, all_of, gauges_fine, any, those, belongs, added_up}
 use Rattle.sums.specs.Tables.{zero_table, entry_of, next_reading, TablesOf, with_sum, with_count}
@@ -24,7 +24,7 @@ use Rattle.machine.specs.Machine.{as_step}
 use Rattle.machine.specs.Boot.{page_fits}
 use Rattle.sums.specs.Pages.{page_sums, page_counts, page_length}
 use Rattle.sums.specs.Written.{written}
-use Rattle.gauge.specs.Gauge.{tell_next, next_cell, set_named}
+use Rattle.gauge.specs.Gauge.{tell_next, next_cell}
 use Rattle.promise.specs.Promise.{core}
 use Rattle.promise.proofs.Knows.{hour_at, Holds, CursorTrue, Over, Shut, Open, cell_right, cell_told, hour_told, open_first, open_next, over_end, over_other, shut_after}
 use Rattle.promise.proofs.Drawing.{drawn_cursor, kept_cursor, drawn_page, kept_page, drawn_root, kept_root, drawn_blank, kept_blank, booted_drawers, tables_fit}

@@ -1,8 +1,8 @@
 -- What fine gauges say of each row, what comes of a place in a row, and that where the others are empty one row is all there is.
-use Rattle.std.proofs.Common.{◌≡◌, ℕ, zero, suc, ◌<◌, ◌≤◌, Bool, true, false, ◌&&◌, eqb, ltb, leb, List, [], ◌∷◌, ◌++◌, length, get_or, drop, refl, ap, ◌∙◌, append-nil, arith}
+use Rattle.std.proofs.Common.{◌≡◌, ℕ, zero, suc, ◌<◌, ◌≤◌, true, ◌&&◌, eqb, ltb, leb, List, [], ◌∷◌, ◌++◌, length, get_or, drop, refl, ap, ◌∙◌, append-nil, arith}
 use Rattle.std.proofs.lemmas.Bool.{ltb-true, leb-true, and_parts}
 use Rattle.sums.specs.Parts.{no_reading}
-use Rattle.sums.specs.Sums.{or, every, any, none_of, all_of, Gauges, Reading, rising, a_reading, gauges_fine}
+use Rattle.sums.specs.Sums.{every, none_of, all_of, Gauges, Reading, rising, a_reading, gauges_fine}
 use Rattle.sums.proofs.Everys.{every_at}
 use Rattle.machine.specs.Run.{Event, comes, first_reading, nth_row}
 use Rattle.promise.specs.Promise.{others_empty}

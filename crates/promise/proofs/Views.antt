@@ -1,7 +1,7 @@
 -- The memory of a machine by its named parts, and each step of the machine on it.
-use Rattle.std.proofs.Common.{◌≡◌, ℕ, zero, suc, ◌+◌, ◌-◌, ◌*◌, ◌/◌, ◌<◌, ◌≤◌, true, false, cond, eqb, ltb, ◌⊎◌, List, [], ◌∷◌, ◌++◌, length, get_or, take, drop, set, replicate, Some, None, Ok, Option, sym, refl, ap, ◌∙◌, subst, ap₂, ⊎_elim, append_assoc, le_trans, add_assoc, arith, length-append, length-drop, length-set, get_or-drop, take_all, drop-drop, take_at, get_or-append-add, drop_at}
+use Rattle.std.proofs.Common.{◌≡◌, ℕ, zero, suc, ◌+◌, ◌-◌, ◌*◌, ◌/◌, ◌<◌, ◌≤◌, true, false, cond, eqb, ltb, ◌⊎◌, List, [], ◌∷◌, ◌++◌, length, get_or, take, drop, set, replicate, Some, None, Ok, Option, sym, refl, ap, ◌∙◌, subst, ap₂, ⊎_elim, le_trans, arith, length-append, length-drop, length-set, get_or-drop, take_all, drop-drop, take_at, get_or-append-add, drop_at}
 use lib.ListN.{replicate-append-replicate, get_or-append}
-use lib.Seq.{take-append-add, take-append-le, drop-append-add, drop-append-le, set-append_left}
+use lib.Seq.{take-append-le, drop-append-add, drop-append-le, set-append_left}
 use Rattle.std.proofs.lemmas.List.{set-append_right}
 use Rattle.std.proofs.lemmas.Bool.{ltb-true, ltb-false, eqb-true, eqb-false, lt-ltb, le-ltb, eq-eqb, ne_eqb, and_from, cases_eq, cond-true, cond-false, cond_both}
 use Rattle.sums.specs.Cells.{place_of}

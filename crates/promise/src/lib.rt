@@ -43,7 +43,7 @@ pub fn all_released()
     ensures { AllReleased }
 {}
 
-// Theorem: a row is told again at most once for each stroke of lightning.
+// Theorem: a row is told again at most once for each stroke of lightning on the machine that tells, which is the first.
 pub fn told_once()
     ensures { ToldOnce }
 {}

@@ -1,4 +1,4 @@
-use Rattle.std.proofs.Common.{[], get_or, take, vec_items, sym, refl, ap, ◌∙◌, subst}
+use Rattle.std.proofs.Common.{◌≡◌, true, [], get_or, take, vec_items, sym, refl, ap, ◌∙◌, subst}
 use Rattle.std.proofs.lemmas.List.{take_all, take_more}
 use Rattle.sums.specs.Sums.{every}
 use Rattle.river.specs.declared.model.Item.TheVariants.{Works}
@@ -6,6 +6,7 @@ use Rattle.world.specs.Rounds.{written_out}
 use Rattle.play.specs.Plays.{unrolled}
 use Rattle.play.specs.Courses.{Grown}
 use Rattle.play.proofs.Unrolling.{unrolled_one}
+use Rattle.play.proofs.Limits.{limited, unrolled_limited, plain_fine}
 use Rattle.play.proofs.Growing.{grown_none, grown_both}
 use Rattle.play.proofs.course.plain.Goals as goal
 
@@ -27,4 +28,11 @@ pub returns : goal.returns
 unfolding unrolled every
 returns c =
     let all = take_all c.loop-item.item-index c.args.items.now c.loop-item-test.false in
-    record { same = c.loop-item.invariant.same ∙ ap unrolled all; plain = c.loop-item.invariant.plain refl }
+    let same = c.loop-item.invariant.same ∙ ap unrolled all in
+    let plain = c.loop-item.invariant.plain refl in
+    let out = vec_items c.loop-item.out in
+    record {
+      same = same;
+      plain = plain;
+      fine = λ e. plain_fine out plain (subst (λ l. every limited l ≡ true) (sym same) (unrolled_limited c.args.items.now e));
+    }

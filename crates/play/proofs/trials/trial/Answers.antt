@@ -6,7 +6,7 @@ use Rattle.sums.specs.Readings.{as_gauges}
 use Rattle.machine.specs.Run.{calm}
 use Rattle.promise.specs.Promise.{Safe, core}
 use Rattle.promise.specs.Ever.{EverWhole}
-use Rattle.promise.specs.Once.{ToldOnce, told_again, strokes_in}
+use Rattle.promise.specs.Once.{ToldOnce, told_again, strokes_of}
 use Rattle.promise.proofs.Core.{ever_whole}
 use Rattle.promise.proofs.OnceWorld.{told_once}
 use Rattle.river.specs.declared.model.Item.{Item}
@@ -17,8 +17,8 @@ use Rattle.play.specs.Verdicts.{verdict_of}
 use Rattle.play.specs.declared.verdict.Verdict.TheVariants.{Fault, Wrong, Untold, Right}
 use Rattle.play.proofs.trials.trial.Goals as goal
 
--- no more rows are told again than there are strokes
-told_few : (gs : Gauges) (its : List Item) → gauges_fine gs ≡ true → core gs ≡ true → told_again (played gs its).told ≤ strokes_in (unrolled its)
+-- no more rows are told again than there are strokes on the first machine
+told_few : (gs : Gauges) (its : List Item) → gauges_fine gs ≡ true → core gs ≡ true → told_again (played gs its).told ≤ strokes_of 0 (unrolled its)
 unfolding ToldOnce calm
 told_few gs its = told_once gs (unrolled its) 0 0
 
@@ -39,7 +39,7 @@ returns c =
           c.outcome_of.ensures.verdict;
       rare = IfOk-weaker c.outcome_of.result _ _
           (λ t s fine known.
-          (subst (λ w. Scores gs (unrolled its) w t.score) is s).too_often ∙ ap (λ b. pick b 1 0) (le-ltb (strokes_in (unrolled its)) (told_again (played gs its).told) (told_few gs its fine known)))
+          (subst (λ w. Scores gs (unrolled its) w t.score) is s).too_often ∙ ap (λ b. pick b 1 0) (le-ltb (strokes_of 0 (unrolled its)) (told_again (played gs its).told) (told_few gs its fine known)))
           c.outcome_of.ensures.score;
       score = IfOk-weaker c.outcome_of.result _ _ (λ t. subst (λ w. Scores gs (unrolled its) w t.score) is) c.outcome_of.ensures.score;
       refused = c.outcome_of.ensures.refused;
