@@ -1,0 +1,4 @@
+mod Lines
+mod Told
+mod Ends
+mod Shown

@@ -1,0 +1,28 @@
+// The river that a file has.
+use anyhow::anyhow;
+use river::River;
+use std::fs;
+use std::io::Read;
+
+// The text of the file that is named, or standard input.
+fn read(rt: &HostRuntime, file: &str) -> anyhow::Result<String> {
+    if file == "-" {
+        let mut text = String::new(rt.alloc());
+        rt.stdin().read_to_string(&mut text)?;
+        return Ok(text);
+    }
+    fs::read_to_string(rt, file).map_err(|error| anyhow!("{file} cannot be read: {error}"))
+}
+
+// Any river, also one that is not played.
+pub fn read_any(rt: &HostRuntime, file: &str) -> anyhow::Result<River> {
+    let text = read(rt, file)?;
+    Ok(river::parse(rt.alloc(), text.as_str())?)
+}
+
+// A river that the machines are right on.
+pub fn read_river(rt: &HostRuntime, file: &str) -> anyhow::Result<River> {
+    let river = read_any(rt, file)?;
+    scope::first_alone(river.gauges.as_slice())?;
+    Ok(river)
+}
