@@ -2,3 +2,4 @@ mod Lines
 mod Told
 mod Ends
 mod Shown
+mod Quiet

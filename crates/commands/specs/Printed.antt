@@ -1,13 +1,16 @@
 -- What is printed. Assumes nothing: these are definitions.
-use Rattle.std.specs.Prelude.{ℕ, Bool, true, false, List, ◌++◌, Option, length, codes, decimal}
-use Rattle.std.specs.Io.KnownBytes.{Appends}
+use Rattle.std.specs.Prelude.{◌≡◌, ℕ, Bool, true, false, List, ◌++◌, Ok, Err, Option, Result, length, codes, decimal}
+use Rattle.std.specs.Io.KnownBytes.{Keeps, Appends}
 use Rattle.sums.specs.Sums.{Gauges, ToldSum}
 use Rattle.machine.specs.Run as run
+use Rattle.promise.specs.Promise.{core}
+use Rattle.river.specs.declared.model.Item.{Item}
 use Rattle.rows.specs.Walls.{ToTell, wrong_rows}
 use Rattle.text.specs.Text.{Bytes}
 use Rattle.text.specs.Written.{lined, lines_of}
 use Rattle.wall_reader.specs.Shown.{row_line}
-use Rattle.play.specs.Trials.{readings_after}
+use Rattle.play.specs.Plays.{played}
+use Rattle.play.specs.Trials.{all_right, readings_after}
 use Rattle.play.specs.Verdicts.{AreUntold, verdict_of, said_of}
 use Rattle.play.specs.declared.trials.Score.{Score}
 use Rattle.play.specs.declared.verdict.Verdict.{Verdict}
@@ -55,3 +58,21 @@ ShowsPlay gs w old new = (untold : List ToldSum) × AreUntold gs w.told untold �
 abbrev pub score_line : Bytes → Score → Bytes
 score_line counted s =
     counted ++ (codes ", " ++ (decimal s.too_often ++ (codes " too often, " ++ (decimal s.wrong ++ (codes " wrong, " ++ (decimal s.untold ++ (codes " untold, " ++ (decimal s.faults ++ codes " faults"))))))))
+
+abbrev pub rivers_line : Score → Bytes
+rivers_line s = score_line (decimal s.worlds ++ (codes " rivers, " ++ (decimal s.readings ++ (codes " readings, " ++ (decimal s.told ++ codes " rows told"))))) s
+
+abbrev pub walls_line : Score → Bytes
+walls_line s = score_line (decimal s.worlds ++ (codes " walls, " ++ (decimal s.told ++ (codes " rows told, " ++ (decimal s.again ++ codes " told again"))))) s
+
+-- nothing is printed where nothing is wrong
+abbrev pub QuietIfRight : Score → Option Bytes → Option Bytes → Type 0
+QuietIfRight s old new = all_right s ≡ true → Keeps old new
+
+-- nothing is wrong, and just a line is printed
+abbrev pub ShowsScore : (Score → Bytes) → Score → Option Bytes → Option Bytes → Type 0
+ShowsScore line s old new = (all_right s ≡ true) × Appends old new (lined (line s))
+
+-- one river was played, of which only the first gauge has readings
+abbrev pub PlaysOne : Option Bytes → Option Bytes → Type 0
+PlaysOne old new = (gs : Gauges) × (its : List Item) × (core gs ≡ true) × ShowsPlay gs (played gs its) old new

@@ -1,4 +1,8 @@
 // The river that a file has.
+ghost use Rattle.std.specs.Prelude.{◌≡◌, true, IfOk};
+ghost use Rattle.sums.specs.Readings.{as_gauges};
+ghost use Rattle.promise.specs.Promise.{core};
+
 use anyhow::anyhow;
 use river::River;
 use std::fs;
@@ -21,7 +25,9 @@ pub fn read_any(rt: &HostRuntime, file: &str) -> anyhow::Result<River> {
 }
 
 // A river that the machines are right on.
-pub fn read_river(rt: &HostRuntime, file: &str) -> anyhow::Result<River> {
+pub fn read_river(rt: &HostRuntime, file: &str) -> anyhow::Result<River>
+    ensures { IfOk result (λ r. core (as_gauges r.gauges.items) ≡ true) }
+{
     let river = read_any(rt, file)?;
     scope::first_alone(river.gauges.as_slice())?;
     Ok(river)

@@ -1,4 +1,8 @@
 // A river struck after every act, once or twice in a row.
+ghost use Rattle.std.specs.Prelude.{IfOk, OnOk};
+ghost use Rattle.play.specs.declared.trials.Score.{Score as Scored};
+ghost use Rattle.commands.specs.Printed.{QuietIfRight, ShowsScore, walls_line};
+
 use crate::progress::Progress;
 use crate::score;
 use play::Score;
@@ -22,7 +26,9 @@ struct Target<'a> {
 
 impl<'a> Target<'a> {
     // Plays it struck at the item at k, after so many acts each time.
-    fn strike<W: Write>(&self, out: &mut W, k: usize, strokes: &[u64]) -> anyhow::Result<Score> {
+    fn strike<W: Write>(&self, out: &mut W, k: usize, strokes: &[u64]) -> anyhow::Result<Score>
+        ensures { IfOk result (λ s. QuietIfRight s (W.contents out.old) (W.contents out.new)) }
+    {
         let heap = self.rt.alloc();
         let mut items = play::struck(heap, self.items, k, strokes)?;
         items.push(LAST_CALM)?;
@@ -52,7 +58,9 @@ impl<'a> Target<'a> {
         k: usize,
         machine: u64,
         first: u64,
-    ) -> anyhow::Result<Score> {
+    ) -> anyhow::Result<Score>
+        ensures { IfOk result (λ s. QuietIfRight s (W.contents out.old) (W.contents out.new)) }
+    {
         let mut score = Score::NONE;
         for second in 0..=self.acts_after(k, machine, first)? {
             score = score.plus(self.strike(out, k, &[first, second])?);
@@ -68,7 +76,9 @@ impl<'a> Target<'a> {
         machine: u64,
         first: u64,
         strokes: Strokes,
-    ) -> anyhow::Result<Score> {
+    ) -> anyhow::Result<Score>
+        ensures { IfOk result (λ s. QuietIfRight s (W.contents out.old) (W.contents out.new)) }
+    {
         match strokes {
             Strokes::One => self.strike(out, k, &[first]),
             Strokes::Two => self.strike_twice(out, k, machine, first),
@@ -87,7 +97,9 @@ pub fn strike_all<'a, W: Write>(
     out: &mut W,
     river: &'a River,
     strokes: Strokes,
-) -> anyhow::Result<()> {
+) -> anyhow::Result<()>
+    ensures { OnOk result ((s : Scored) × ShowsScore walls_line s (W.contents out.old) (W.contents out.new)) }
+{
     let heap = rt.alloc();
     let gauges = river.gauges.as_slice();
     let items = play::plain(heap, river.items.as_slice())?;
@@ -114,7 +126,9 @@ pub fn strike_all<'a, W: Write>(
     print(out, score)
 }
 
-fn print<W: Write>(out: &mut W, score: Score) -> anyhow::Result<()> {
+fn print<W: Write>(out: &mut W, score: Score) -> anyhow::Result<()>
+    ensures { OnOk result (ShowsScore walls_line score (W.contents out.old) (W.contents out.new)) }
+{
     let Score {
         worlds,
         told,

@@ -1,5 +1,6 @@
 // Rows, printed a line each.
 ghost use Rattle.std.specs.Prelude.{OnOk};
+ghost use Rattle.sums.specs.Sums.{Gauges};
 ghost use Rattle.sums.specs.Readings.{as_gauges};
 ghost use Rattle.std.specs.Io.KnownBytes.{Appends};
 ghost use Rattle.rows.specs.Walls.{as_wall};
@@ -40,7 +41,9 @@ fn print_sums_of<W: Write>(heap: Global, out: &mut W, gauges: &[Vec<Reading>]) -
     Ok(())
 }
 
-pub fn print_sums<W: Write>(rt: &HostRuntime, out: &mut W, file: &str) -> anyhow::Result<()> {
+pub fn print_sums<W: Write>(rt: &HostRuntime, out: &mut W, file: &str) -> anyhow::Result<()>
+    ensures { OnOk result ((gs : Gauges) × ListsAll gs (W.contents out.old) (W.contents out.new)) }
+{
     let river = read_any(rt, file)?;
     print_sums_of(rt.alloc(), out, river.gauges.as_slice())
 }

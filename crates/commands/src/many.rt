@@ -1,11 +1,18 @@
 // Rivers made at random, one after the other.
+ghost use Rattle.std.specs.Prelude.{◌≡◌, IfOk, OnOk};
+ghost use Rattle.play.specs.declared.trials.Score.{Score as Scored};
+ghost use Rattle.commands.specs.Printed.{QuietIfRight, ShowsScore, rivers_line};
+
 use crate::progress::Progress;
 use crate::score;
 use play::Score;
 use std::io::Write;
 
 // Plays the river of a seed; one that is not right, not told to its end, or told too often, is printed whole.
-fn play_one<W: Write>(rt: &HostRuntime, out: &mut W, seed: u64) -> anyhow::Result<Score> {
+fn play_one<W: Write>(rt: &HostRuntime, out: &mut W, seed: u64) -> anyhow::Result<Score>
+    ensures counted { IfOk result (λ s. s.worlds ≡ 1) }
+    ensures quiet { IfOk result (λ s. QuietIfRight s (W.contents out.old) (W.contents out.new)) }
+{
     let heap = rt.alloc();
     let text = chance::random_river(heap, seed)?;
     let river = river::parse(heap, text.as_str())?;
@@ -23,7 +30,9 @@ pub fn play_all<W: Write>(
     out: &mut W,
     first: u64,
     rivers: u64,
-) -> anyhow::Result<()> {
+) -> anyhow::Result<()>
+    ensures { OnOk result ((s : Scored) × (s.worlds ≡ rivers) × ShowsScore rivers_line s (W.contents out.old) (W.contents out.new)) }
+{
     let mut progress = Progress::new(rt)?;
     let mut score = Score::NONE;
     for n in 0..rivers {

@@ -1,5 +1,5 @@
 // One river played, and what came of it.
-ghost use Rattle.std.specs.Prelude.{◌≡◌, true, IfOk, OnOk, vec_len};
+ghost use Rattle.std.specs.Prelude.{◌≡◌, true, false, IfOk, OnOk, vec_len};
 ghost use Rattle.std.specs.Io.KnownBytes.{Appends};
 ghost use Rattle.sums.specs.Readings.{as_gauges};
 ghost use Rattle.world.specs.Worlds.{as_world};
@@ -7,7 +7,7 @@ ghost use Rattle.play.specs.Plays.{played};
 ghost use Rattle.play.specs.Trials.{readings_after};
 ghost use Rattle.play.specs.Verdicts.{verdict_of};
 ghost use Rattle.text.specs.Written.{lined};
-ghost use Rattle.commands.specs.Printed.{wall_text, verdict_line, is_well, ShowsPlay};
+ghost use Rattle.commands.specs.Printed.{wall_text, verdict_line, is_well, ShowsPlay, PlaysOne};
 
 use crate::input::read_river;
 use crate::listing::{print_rows, print_untold};
@@ -26,7 +26,9 @@ pub fn play_file<W: Write>(
     out: &mut W,
     file: &str,
     stats: bool,
-) -> anyhow::Result<()> {
+) -> anyhow::Result<()>
+    ensures { OnOk result (stats ≡ false → PlaysOne (W.contents out.old) (W.contents out.new)) }
+{
     let river = read_river(rt, file)?;
     if stats {
         play_timed(rt, out, &river)
