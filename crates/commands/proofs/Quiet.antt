@@ -1,5 +1,5 @@
 -- Scores added up: nothing is wrong in the sum only where nothing is wrong in either.
-use Rattle.std.proofs.Common.{◌≡◌, ℕ, true, ◌&&◌, Option, ◌==◌, sym, ap, ◌∙◌, arith}
+use Rattle.std.proofs.Common.{◌≡◌, ℕ, true, Option, ◌==◌, sym, ap, ◌∙◌, arith}
 use Rattle.std.proofs.KnownBytes.{Keeps-trans}
 use Rattle.std.proofs.lemmas.Bool.{and_parts, and_from}
 use Rattle.std.proofs.lemmas.Bool.Decides.{nat_tests}
