@@ -3,7 +3,7 @@ use Rattle.std.specs.Prelude.{◌≡◌, ℕ, Bool, true, false, List, ◌++◌,
 use Rattle.std.specs.Io.KnownBytes.{Keeps, Appends}
 use Rattle.sums.specs.Sums.{Gauges, ToldSum}
 use Rattle.machine.specs.Run as run
-use Rattle.promise.specs.Promise.{core}
+use Rattle.promise.specs.Promise.{Safe, core}
 use Rattle.river.specs.declared.model.Item.{Item}
 use Rattle.rows.specs.Walls.{ToTell, wrong_rows}
 use Rattle.text.specs.Text.{Bytes}
@@ -73,6 +73,6 @@ QuietIfRight s old new = all_right s ≡ true → Keeps old new
 abbrev pub ShowsScore : (Score → Bytes) → Score → Option Bytes → Option Bytes → Type 0
 ShowsScore line s old new = (all_right s ≡ true) × Appends old new (lined (line s))
 
--- one river was played, of which only the first gauge has readings
+-- one river was played, of which only the first gauge has readings: no machine is at fault in its world, and every row on the wall is right
 abbrev pub PlaysOne : Option Bytes → Option Bytes → Type 0
-PlaysOne old new = (gs : Gauges) × (its : List Item) × (core gs ≡ true) × ShowsPlay gs (played gs its) old new
+PlaysOne old new = (gs : Gauges) × (its : List Item) × (core gs ≡ true) × Safe gs (played gs its) × ShowsPlay gs (played gs its) old new

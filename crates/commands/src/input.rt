@@ -2,6 +2,7 @@
 ghost use Rattle.std.specs.Prelude.{◌≡◌, true, IfOk};
 ghost use Rattle.sums.specs.Readings.{as_gauges};
 ghost use Rattle.promise.specs.Promise.{core};
+ghost use Rattle.river.specs.Fine.{RiverFine};
 
 use anyhow::anyhow;
 use river::River;
@@ -19,14 +20,17 @@ fn read(rt: &HostRuntime, file: &str) -> anyhow::Result<String> {
 }
 
 // Any river, also one that is not played.
-pub fn read_any(rt: &HostRuntime, file: &str) -> anyhow::Result<River> {
+pub fn read_any(rt: &HostRuntime, file: &str) -> anyhow::Result<River>
+    ensures { IfOk result RiverFine }
+{
     let text = read(rt, file)?;
     Ok(river::parse(rt.alloc(), text.as_str())?)
 }
 
 // A river that the machines are right on.
 pub fn read_river(rt: &HostRuntime, file: &str) -> anyhow::Result<River>
-    ensures { IfOk result (λ r. core (as_gauges r.gauges.items) ≡ true) }
+    ensures fine { IfOk result RiverFine }
+    ensures core { IfOk result (λ r. core (as_gauges r.gauges.items) ≡ true) }
 {
     let river = read_any(rt, file)?;
     scope::first_alone(river.gauges.as_slice())?;

@@ -21,6 +21,7 @@ use std::time::Instant;
 use sums::Reading;
 use world::World;
 
+#[tactic(auto, using(crate::proofs::Shown::played_safe))]
 pub fn play_file<W: Write>(
     rt: &HostRuntime,
     out: &mut W,
