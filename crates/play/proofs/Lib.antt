@@ -1,4 +1,4 @@
-mod Unrolling
+pub mod Unrolling
 mod Growing
 mod Striking
 mod Counting

@@ -1,27 +1,42 @@
 // Rivers made at random, one after the other.
+ghost use Rattle.std.specs.Prelude.{◌≡◌, IfOk, OnOk};
+ghost use Rattle.play.specs.declared.trials.Score.{Score as Scored};
+ghost use Rattle.commands.specs.Printed.{QuietIfRight, ShowsScore, rivers_line};
+
 use crate::progress::Progress;
 use crate::score;
 use play::Score;
+use std::io::Write;
 
 // Plays the river of a seed; one that is not right, not told to its end, or told too often, is printed whole.
-fn play_one(rt: &HostRuntime, seed: u64) -> anyhow::Result<Score> {
+fn play_one<W: Write>(rt: &HostRuntime, out: &mut W, seed: u64) -> anyhow::Result<Score>
+    ensures counted { IfOk result (λ s. s.worlds ≡ 1) }
+    ensures quiet { IfOk result (λ s. QuietIfRight s (W.contents out.old) (W.contents out.new)) }
+{
     let heap = rt.alloc();
     let text = chance::random_river(heap, seed)?;
     let river = river::parse(heap, text.as_str())?;
     scope::first_alone(river.gauges.as_slice())?;
     let outcome = play::trial(heap, river.gauges.as_slice(), river.items.as_slice())?;
     if !outcome.score.is_right() {
-        println!(rt; "# seed {seed}: {outcome}")?;
-        print!(rt; "{text}")?;
+        writeln!(out, "# seed {seed}: {outcome}")?;
+        write!(out, "{text}")?;
     }
     Ok(outcome.score)
 }
 
-pub fn play_all(rt: &HostRuntime, first: u64, rivers: u64) -> anyhow::Result<()> {
+pub fn play_all<W: Write>(
+    rt: &HostRuntime,
+    out: &mut W,
+    first: u64,
+    rivers: u64,
+) -> anyhow::Result<()>
+    ensures { OnOk result ((s : Scored) × (s.worlds ≡ rivers) × ShowsScore rivers_line s (W.contents out.old) (W.contents out.new)) }
+{
     let mut progress = Progress::new(rt)?;
     let mut score = Score::NONE;
     for n in 0..rivers {
-        score = score.plus(play_one(rt, first.wrapping_add(n))?);
+        score = score.plus(play_one(rt, out, first.wrapping_add(n))?);
         progress.show(rt, score.worlds, rivers, "rivers")?;
     }
     let Score {
@@ -32,7 +47,7 @@ pub fn play_all(rt: &HostRuntime, first: u64, rivers: u64) -> anyhow::Result<()>
     } = score;
     let counted = format_args!("{worlds} rivers, {readings} readings, {told} rows told");
     score::print(
-        rt,
+        out,
         &counted,
         score,
         "not every river was played right to its end",

@@ -1,29 +1,31 @@
 // What a river cost: acts by kind, acts for each reading and each row, and time.
 use play::{Ratio, count_readings};
 use river::River;
+use std::io::Write;
 use std::time::{Duration, Instant};
 use world::{Kind, Tally, World};
 
-fn print_acts(rt: &HostRuntime, tally: &Tally) -> anyhow::Result<()> {
+fn print_acts<W: Write>(out: &mut W, tally: &Tally) -> anyhow::Result<()> {
     let total = tally.total();
-    print!(rt; "{total} acts")?;
+    write!(out, "{total} acts")?;
     for kind in Kind::ALL {
         let count = tally.of(kind);
-        print!(rt; ", {count} {kind}")?;
+        write!(out, ", {count} {kind}")?;
     }
-    println!(rt; "")?;
+    writeln!(out)?;
     Ok(())
 }
 
-fn print_ratio(rt: &HostRuntime, of: u64, to: u64, what: &str) -> anyhow::Result<()> {
+fn print_ratio<W: Write>(out: &mut W, of: u64, to: u64, what: &str) -> anyhow::Result<()> {
     if let Some(ratio) = Ratio::new(of, to) {
-        println!(rt; "{ratio} acts for each {what}")?;
+        writeln!(out, "{ratio} acts for each {what}")?;
     }
     Ok(())
 }
 
-pub fn print(
+pub fn print<W: Write>(
     rt: &HostRuntime,
+    out: &mut W,
     river: &River,
     world: &World,
     stepping: Duration,
@@ -33,14 +35,20 @@ pub fn print(
     let acts = world.tally.total();
     let keeps = world.tally.of(Kind::Kept);
     let releases = world.tally.of(Kind::Released);
-    print_acts(rt, &world.tally)?;
-    println!(rt; "{readings} readings, {rows} rows, {keeps} keeps, {releases} releases")?;
-    print_ratio(rt, acts, readings, "reading")?;
-    print_ratio(rt, acts, rows, "row")?;
+    print_acts(out, &world.tally)?;
+    writeln!(
+        out,
+        "{readings} readings, {rows} rows, {keeps} keeps, {releases} releases"
+    )?;
+    print_ratio(out, acts, readings, "reading")?;
+    print_ratio(out, acts, rows, "row")?;
     let start = Instant::now(rt)?;
     let _sums = rows::sums_of(rt.alloc(), river.gauges.as_slice())?;
     let at_once = start.elapsed(rt)?.as_micros();
     let stepped = stepping.as_micros();
-    println!(rt; "{stepped} us for the steps, {at_once} us for the sums made at once")?;
+    writeln!(
+        out,
+        "{stepped} us for the steps, {at_once} us for the sums made at once"
+    )?;
     Ok(())
 }

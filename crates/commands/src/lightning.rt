@@ -1,9 +1,14 @@
 // A river struck after every act, once or twice in a row.
+ghost use Rattle.std.specs.Prelude.{IfOk, OnOk};
+ghost use Rattle.play.specs.declared.trials.Score.{Score as Scored};
+ghost use Rattle.commands.specs.Printed.{QuietIfRight, ShowsScore, walls_line};
+
 use crate::progress::Progress;
 use crate::score;
 use play::Score;
 use player_args::Strokes;
 use river::{Item, River};
+use std::io::Write;
 use sums::Reading;
 
 // Acts enough for a machine to come to rest.
@@ -21,15 +26,17 @@ struct Target<'a> {
 
 impl<'a> Target<'a> {
     // Plays it struck at the item at k, after so many acts each time.
-    fn strike(&self, k: usize, strokes: &[u64]) -> anyhow::Result<Score> {
+    fn strike<W: Write>(&self, out: &mut W, k: usize, strokes: &[u64]) -> anyhow::Result<Score>
+        ensures { IfOk result (λ s. QuietIfRight s (W.contents out.old) (W.contents out.new)) }
+    {
         let heap = self.rt.alloc();
         let mut items = play::struck(heap, self.items, k, strokes)?;
         items.push(LAST_CALM)?;
         let outcome = play::trial(heap, self.gauges, items.as_slice())?;
         if !outcome.score.is_right() {
             let text = chance::river_text(heap, self.gauges, items.as_slice())?;
-            println!(self.rt; "# {outcome}")?;
-            print!(self.rt; "{text}")?;
+            writeln!(out, "# {outcome}")?;
+            write!(out, "{text}")?;
         }
         Ok(outcome.score)
     }
@@ -45,25 +52,36 @@ impl<'a> Target<'a> {
     }
 
     // Struck after so many acts, and a second time after every number of acts that follow.
-    fn strike_twice(&self, k: usize, machine: u64, first: u64) -> anyhow::Result<Score> {
+    fn strike_twice<W: Write>(
+        &self,
+        out: &mut W,
+        k: usize,
+        machine: u64,
+        first: u64,
+    ) -> anyhow::Result<Score>
+        ensures { IfOk result (λ s. QuietIfRight s (W.contents out.old) (W.contents out.new)) }
+    {
         let mut score = Score::NONE;
         for second in 0..=self.acts_after(k, machine, first)? {
-            score = score.plus(self.strike(k, &[first, second])?);
+            score = score.plus(self.strike(out, k, &[first, second])?);
         }
         Ok(score)
     }
 
     // Struck at the item at k after so many acts, once or twice in a row.
-    fn strike_after(
+    fn strike_after<W: Write>(
         &self,
+        out: &mut W,
         k: usize,
         machine: u64,
         first: u64,
         strokes: Strokes,
-    ) -> anyhow::Result<Score> {
+    ) -> anyhow::Result<Score>
+        ensures { IfOk result (λ s. QuietIfRight s (W.contents out.old) (W.contents out.new)) }
+    {
         match strokes {
-            Strokes::One => self.strike(k, &[first]),
-            Strokes::Two => self.strike_twice(k, machine, first),
+            Strokes::One => self.strike(out, k, &[first]),
+            Strokes::Two => self.strike_twice(out, k, machine, first),
         }
     }
 }
@@ -74,11 +92,14 @@ fn total(acts: &[u64]) -> u64 {
         .fold(0, |sum: u64, acts| sum.saturating_add(*acts))
 }
 
-pub fn strike_all<'a>(
+pub fn strike_all<'a, W: Write>(
     rt: &'a HostRuntime,
+    out: &mut W,
     river: &'a River,
     strokes: Strokes,
-) -> anyhow::Result<()> {
+) -> anyhow::Result<()>
+    ensures { OnOk result ((s : Scored) × ShowsScore walls_line s (W.contents out.old) (W.contents out.new)) }
+{
     let heap = rt.alloc();
     let gauges = river.gauges.as_slice();
     let items = play::plain(heap, river.items.as_slice())?;
@@ -97,15 +118,17 @@ pub fn strike_all<'a>(
             continue;
         };
         for first in 1..=*acts {
-            score = score.plus(target.strike_after(k, *machine, first, strokes)?);
+            score = score.plus(target.strike_after(out, k, *machine, first, strokes)?);
             struck = struck.saturating_add(1);
             progress.show(rt, struck, of, "acts struck")?;
         }
     }
-    print(rt, score)
+    print(out, score)
 }
 
-fn print(rt: &HostRuntime, score: Score) -> anyhow::Result<()> {
+fn print<W: Write>(out: &mut W, score: Score) -> anyhow::Result<()>
+    ensures { OnOk result (ShowsScore walls_line score (W.contents out.old) (W.contents out.new)) }
+{
     let Score {
         worlds,
         told,
@@ -114,7 +137,7 @@ fn print(rt: &HostRuntime, score: Score) -> anyhow::Result<()> {
     } = score;
     let counted = format_args!("{worlds} walls, {told} rows told, {again} told again");
     score::print(
-        rt,
+        out,
         &counted,
         score,
         "not every stroke was played right to the end",

@@ -1,0 +1,5 @@
+mod Lines
+mod Told
+mod Ends
+mod Shown
+mod Quiet

@@ -1,0 +1,49 @@
+// Rows, printed a line each.
+ghost use Rattle.std.specs.Prelude.{OnOk};
+ghost use Rattle.sums.specs.Sums.{Gauges};
+ghost use Rattle.sums.specs.Readings.{as_gauges};
+ghost use Rattle.std.specs.Io.KnownBytes.{Appends};
+ghost use Rattle.rows.specs.Walls.{as_wall};
+ghost use Rattle.commands.specs.Printed.{wall_text, untold_text, ListsAll};
+
+use crate::input::read_any;
+use rows::Row;
+use std::alloc::Global;
+use std::io;
+use std::io::Write;
+use sums::Reading;
+
+pub fn print_rows<W: Write>(out: &mut W, rows: &[Row]) -> io::Result<()>
+    ensures { OnOk result (Appends (W.contents out.old) (W.contents out.new) (wall_text (as_wall rows.now))) }
+{
+    for row in rows {
+        writeln!(out, "{row}")?;
+    }
+    Ok(())
+}
+
+pub fn print_untold<W: Write>(out: &mut W, rows: &[Row]) -> io::Result<()>
+    ensures { OnOk result (Appends (W.contents out.old) (W.contents out.new) (untold_text (as_wall rows.now))) }
+{
+    for row in rows {
+        writeln!(out, "untold: {row}")?;
+    }
+    Ok(())
+}
+
+// What is to be told.
+fn print_sums_of<W: Write>(heap: Global, out: &mut W, gauges: &[Vec<Reading>]) -> anyhow::Result<()>
+    ensures { OnOk result (ListsAll (as_gauges gauges.now) (W.contents out.old) (W.contents out.new)) }
+{
+    let sums = rows::sums_of(heap, gauges)?;
+    let rows = rows::listed(heap, &sums)?;
+    print_rows(out, rows.as_slice())?;
+    Ok(())
+}
+
+pub fn print_sums<W: Write>(rt: &HostRuntime, out: &mut W, file: &str) -> anyhow::Result<()>
+    ensures { OnOk result ((gs : Gauges) × ListsAll gs (W.contents out.old) (W.contents out.new)) }
+{
+    let river = read_any(rt, file)?;
+    print_sums_of(rt.alloc(), out, river.gauges.as_slice())
+}

@@ -1,0 +1,225 @@
+// What the player prints, and what it says of what it refuses, on small rivers.
+#![tactic(auto)]
+
+#[cfg(test)]
+mod tests {
+    use std::fs;
+    use std::test::Fail;
+
+    // Its machine is let go of when it has told two rows.
+    const WITHOUT_CALM: &str = "gauge 0
+10 1 4
+50 2 0
+130 1 7
+210 3 5
+happens
+works 0 11
+";
+
+    // A row is told by the first item, two by the third and one by the last.
+    const IN_PARTS: &str = "gauge 0
+10 1 4
+50 2 0
+130 1 7
+210 3 5
+happens
+works 0 9
+works 3 5
+works 0 14
+falls 2
+calm 1 100
+";
+
+    const TWO_GAUGES: &str = "gauge 0
+10 1 4
+gauge 1
+10 1 3
+120 5 2
+happens
+calm 1 100
+";
+
+    // A machine that does 14 acts and rests.
+    const ONE_ROW: &str = "gauge 0
+10 1 4
+happens
+works 0 100
+";
+
+    // Runs a command on a file with this text, in a folder of its own: what is printed, and behind it what is wrong, where something is.
+    fn run(rt: &HostRuntime, folder: &str, text: &str, line: &str) -> Result<String, Fail> {
+        let heap = rt.alloc();
+        if fs::exists(rt, folder)? {
+            fs::remove_dir_all(rt, folder)?;
+        }
+        fs::create_dir(rt, folder)?;
+        let file = format!(in heap; "{folder}/river")?;
+        fs::write(rt, file.as_str(), text)?;
+        let mut words = Vec::new(heap);
+        for word in line.split(' ') {
+            let word = if word == "FILE" { file.as_str() } else { word };
+            words.push(String::from_str(heap, word)?)?;
+        }
+        said(rt, words.as_slice())
+    }
+
+    fn said(rt: &HostRuntime, words: &[String]) -> Result<String, Fail> {
+        let heap = rt.alloc();
+        let mut out: Vec<u8> = Vec::new(heap);
+        let done = commands::run(rt, &mut out, words);
+        let Ok(printed) = String::from_utf8(out) else {
+            return Err(Fail::new("what is printed is no text"));
+        };
+        match done {
+            Ok(()) => Ok(printed),
+            Err(error) => Ok(format!(in heap; "{printed}error: {error}")?),
+        }
+    }
+
+    #[test]
+    fn rows_as_they_are_told(rt: HostRuntime) -> Result<(), Fail> {
+        let wanted = "\
+hour 0 place 1: 4
+hour 0 place 2: 0
+hour 1 place 1: 7
+hour 2 place 3: 5
+4 readings, 4 rows told, 0 wrong, 0 untold: what is told is right, and all is told
+";
+        assert_eq!(rt; run(&rt, "told", IN_PARTS, "play FILE")?.as_str(), wanted);
+        Ok(())
+    }
+
+    #[test]
+    fn rows_that_are_not_told(rt: HostRuntime) -> Result<(), Fail> {
+        let wanted = "\
+hour 0 place 1: 4
+hour 0 place 2: 0
+untold: hour 1 place 1: 7
+untold: hour 2 place 3: 5
+4 readings, 2 rows told, 0 wrong, 2 untold: what is told is right, and not all is told
+";
+        assert_eq!(rt;
+            run(&rt, "untold", WITHOUT_CALM, "play FILE")?.as_str(),
+            wanted
+        );
+        Ok(())
+    }
+
+    // A river that is not played has sums too.
+    #[test]
+    fn sums(rt: HostRuntime) -> Result<(), Fail> {
+        let wanted = "hour 0 place 1: 7\nhour 1 place 5: 2\n";
+        assert_eq!(rt; run(&rt, "sums", TWO_GAUGES, "sums FILE")?.as_str(), wanted);
+        Ok(())
+    }
+
+    #[test]
+    fn a_river_that_is_not_played(rt: HostRuntime) -> Result<(), Fail> {
+        let wanted = "error: gauge 1 has readings, and only those of gauge 0 are added up so far";
+        for line in ["play FILE", "play FILE --stats", "strike FILE"] {
+            assert_eq!(rt; run(&rt, "not-played", TWO_GAUGES, line)?.as_str(), wanted);
+        }
+        Ok(())
+    }
+
+    // Rivers of other seeds have other readings and rows.
+    #[test]
+    fn random(rt: HostRuntime) -> Result<(), Fail> {
+        let wanted =
+            "20 rivers, 42943 readings, 6638 rows told, 0 too often, 0 wrong, 0 untold, 0 faults\n";
+        assert_eq!(rt; run(&rt, "random", "", "random 1 20")?.as_str(), wanted);
+        Ok(())
+    }
+
+    #[test]
+    fn struck_once(rt: HostRuntime) -> Result<(), Fail> {
+        let wanted =
+            "14 walls, 15 rows told, 1 told again, 0 too often, 0 wrong, 0 untold, 0 faults\n";
+        for line in ["strike FILE", "strike FILE 1"] {
+            assert_eq!(rt; run(&rt, "once", ONE_ROW, line)?.as_str(), wanted);
+        }
+        Ok(())
+    }
+
+    #[test]
+    fn struck_twice(rt: HostRuntime) -> Result<(), Fail> {
+        let wanted =
+            "166 walls, 188 rows told, 22 told again, 0 too often, 0 wrong, 0 untold, 0 faults\n";
+        assert_eq!(rt;
+            run(&rt, "twice", ONE_ROW, "strike FILE 2")?.as_str(),
+            wanted
+        );
+        Ok(())
+    }
+
+    // The times, which differ, stand between the two.
+    #[test]
+    fn figures(rt: HostRuntime) -> Result<(), Fail> {
+        let first = "\
+hour 0 place 1: 4
+hour 0 place 2: 0
+untold: hour 1 place 1: 7
+untold: hour 2 place 3: 5
+11 acts, 3 asked, 1 sought, 1 released, 0 sent, 2 kept, 2 recalled, 2 told, 0 rested, 0 faults
+4 readings, 2 rows, 2 keeps, 1 releases
+2.75 acts for each reading
+5.50 acts for each row
+";
+        let last = " us for the sums made at once
+4 readings, 2 rows told, 0 wrong, 2 untold: what is told is right, and not all is told
+";
+        let printed = run(&rt, "figures", WITHOUT_CALM, "play FILE --stats")?;
+        assert!(rt; printed.as_str().starts_with(first), "{printed}");
+        assert!(rt; printed.as_str().ends_with(last), "{printed}");
+        Ok(())
+    }
+
+    #[test]
+    fn a_file_that_is_not_there(rt: HostRuntime) -> Result<(), Fail> {
+        let wanted = "error: away/none cannot be read: No such file or directory (os error 2)";
+        for line in [
+            "play away/none",
+            "away/none",
+            "strike away/none",
+            "sums away/none",
+        ] {
+            assert_eq!(rt; run(&rt, "away", "", line)?.as_str(), wanted);
+        }
+        Ok(())
+    }
+
+    #[test]
+    fn a_file_that_is_no_river(rt: HostRuntime) -> Result<(), Fail> {
+        let wanted = "error: line 2: there is no such place";
+        for line in ["FILE", "sums FILE", "strike FILE"] {
+            assert_eq!(rt;
+                run(&rt, "bad", "gauge 0\n10 1024 4\n", line)?.as_str(),
+                wanted
+            );
+        }
+        Ok(())
+    }
+
+    #[test]
+    fn help(rt: HostRuntime) -> Result<(), Fail> {
+        let printed = run(&rt, "help", "", "--help")?;
+        assert!(rt;
+            printed
+                .as_str()
+                .starts_with("usage: player COMMAND\n\n  play FILE [--stats] ")
+        );
+        assert!(rt;
+            printed
+                .as_str()
+                .ends_with("where a river is not played right.\n")
+        );
+        Ok(())
+    }
+
+    #[test]
+    fn words_that_are_no_command(rt: HostRuntime) -> Result<(), Fail> {
+        let wanted = "error: the seed is missing; `player --help` says how it is used";
+        assert_eq!(rt; run(&rt, "words", "", "random")?.as_str(), wanted);
+        Ok(())
+    }
+}
