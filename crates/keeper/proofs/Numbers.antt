@@ -2,7 +2,7 @@
 use Rattle.std.proofs.Common.{◌≡◌, ℕ, ◌<◌, true, ◌∷◌, [], ◌++◌, Some, refl, ap, ◌∙◌, arith}
 use Rattle.std.specs.Fmt as written
 use Rattle.std.proofs.lemmas.Grind.{common_steps}
-use Rattle.text.specs.Text.{Bytes, lines, all_digits, decimal}
+use Rattle.text.specs.Text.{Bytes, lines, all_digits}
 use Rattle.text.proofs.Numbers.{digits_read}
 use Rattle.text.proofs.Written.{words_only, written_solid, written_some, written_read}
 use Rattle.keeper.specs.Stations.{lone_number, lone_line}
