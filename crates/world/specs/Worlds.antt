@@ -1,5 +1,5 @@
 -- The world that is played, as one of the definitions.
-use Rattle.std.specs.Prelude.{◌≡◌, ℕ, Bool, true, false, List, [], vec_items}
+use Rattle.std.specs.Prelude.{◌≡◌, ℕ, Bool, true, false, List, [], ◌<◌, vec_items, vec_len, vec_capacity}
 use Rattle.sums.specs.Sums.{each, Gauges}
 use Rattle.machine.specs.Run as run
 use Rattle.machine.specs.Entry.{own}
@@ -19,6 +19,10 @@ as_world w = record {
   told = as_wall (vec_items w.told);
   fault = w.fault;
 }
+
+-- room for a row and for a letter
+abbrev pub HasRoom : World → Type 0
+HasRoom w = (vec_len w.told < vec_capacity w.told) × (vec_len w.wires < vec_capacity w.wires)
 
 -- one step of a machine, where it does not rest
 abbrev pub Went : Gauges → run.World → ℕ → Bool → run.World → Type 0

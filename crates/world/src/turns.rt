@@ -1,11 +1,11 @@
 // What happens to the world: machines work, letters come, lightning strikes, calm.
-ghost use Rattle.std.specs.Prelude.{◌≡◌, false, IfOk, OnOk};
+ghost use Rattle.std.specs.Prelude.{◌≡◌, false, IfOk, OnOk, OnErr};
 ghost use Rattle.machine.specs.Entry.{own};
 ghost use Rattle.machine.specs.Run.{machine_at, nth_row, poked, delivered, fallen, goes};
 ghost use Rattle.sums.specs.Readings.{as_row, as_gauges};
 ghost use Rattle.world.specs.Rounds.{pokes, letters_to, a_round, all_rounds, written_out};
 ghost use Rattle.world.specs.Tallies.{next_counted, acts_counted, all_counted};
-ghost use Rattle.world.specs.Worlds.{as_world, Went, took_place, Passed};
+ghost use Rattle.world.specs.Worlds.{as_world, HasRoom, Went, took_place, Passed};
 
 use crate::tally::Kind;
 use crate::wires::{cut, take_letter};
@@ -73,6 +73,7 @@ impl World {
     fn make_room(&mut self) -> Result<(), AllocError>
         ensures world { as_world self.new ≡ as_world self.old }
         ensures counts { self.new.tally.counts ≡ self.old.tally.counts }
+        ensures room { OnOk result (HasRoom self.new) }
     {
         self.told.reserve(1)?;
         self.wires.reserve(1)
@@ -82,14 +83,17 @@ impl World {
     fn step(&mut self, heap: Global, gauges: &[Vec<Reading>], i: u64) -> Result<bool, AllocError>
         ensures world { IfOk result (λ go. Went (as_gauges gauges.now) (as_world self.old) i go (as_world self.new)) }
         ensures counts { OnOk result (self.old.fault ≡ false → self.new.tally.counts ≡ next_counted (as_gauges gauges.now) (as_world self.old) i (machine_at (as_world self.old).machines i).pending self.old.tally.counts) }
+        ensures unmoved { OnErr result ((as_world self.new ≡ as_world self.old) × (self.new.tally.counts ≡ self.old.tally.counts)) }
     {
         self.make_room()?;
         self.turn(heap, gauges, i)
     }
 
     fn turn(&mut self, heap: Global, gauges: &[Vec<Reading>], i: u64) -> Result<bool, AllocError>
+        requires { HasRoom self.old }
         ensures world { IfOk result (λ go. Went (as_gauges gauges.now) (as_world self.old) i go (as_world self.new)) }
         ensures counts { OnOk result (self.old.fault ≡ false → self.new.tally.counts ≡ next_counted (as_gauges gauges.now) (as_world self.old) i (machine_at (as_world self.old).machines i).pending self.old.tally.counts) }
+        ensures unmoved { OnErr result ((as_world self.new ≡ as_world self.old) × (self.new.tally.counts ≡ self.old.tally.counts)) }
     {
         let Some(hut) = self.huts.get_mut(i as usize) else {
             return Ok(false);
@@ -99,7 +103,7 @@ impl World {
             return Ok(false);
         };
         let kind = Kind::from(&effect);
-        self.post(i, effect)?;
+        self.post(i, effect);
         self.tally.count(kind);
         Ok(true)
     }
