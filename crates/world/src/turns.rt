@@ -1,11 +1,11 @@
 // What happens to the world: machines work, letters come, lightning strikes, calm.
-ghost use Rattle.std.specs.Prelude.{◌≡◌, false, IfOk, OnOk, OnErr};
+ghost use Rattle.std.specs.Prelude.{◌≡◌, false, [], ◌∷◌, IfOk, OnOk, OnErr};
 ghost use Rattle.machine.specs.Entry.{own};
-ghost use Rattle.machine.specs.Run.{machine_at, nth_row, poked, delivered, fallen, goes};
+ghost use Rattle.machine.specs.Run.{machine_at, nth_row, poked, delivered, fallen, goes, works};
 ghost use Rattle.sums.specs.Readings.{as_row, as_gauges};
 ghost use Rattle.world.specs.Rounds.{pokes, letters_to, a_round, all_rounds, written_out};
 ghost use Rattle.world.specs.Tallies.{next_counted, acts_counted, all_counted};
-ghost use Rattle.world.specs.Worlds.{as_world, HasRoom, Went, took_place, Passed};
+ghost use Rattle.world.specs.Worlds.{as_world, HasRoom, Went, took_place, Passed, CutShort};
 
 use crate::tally::Kind;
 use crate::wires::{cut, take_letter};
@@ -118,6 +118,7 @@ impl World {
     ) -> Result<(), AllocError>
         ensures world { OnOk result (as_world self.new ≡ goes acts own (as_gauges gauges.now) (as_world self.old) i) }
         ensures counts { OnOk result (self.new.tally.counts ≡ acts_counted acts (as_gauges gauges.now) (as_world self.old) i self.old.tally.counts) }
+        ensures short { OnErr result (CutShort (as_gauges gauges.now) (as_world self.old) self.old.tally.counts (works i acts ∷ []) (as_world self.new) self.new.tally.counts) }
     {
         for _ in 0..acts {
             if self.fault {
@@ -137,7 +138,8 @@ impl World {
         gauges: &[Vec<Reading>],
         acts: u64,
     ) -> Result<(), AllocError>
-        ensures { OnOk result (Passed (as_gauges gauges.now) (as_world self.old) self.old.tally.counts (pokes acts) (as_world self.new) self.new.tally.counts) }
+        ensures passed { OnOk result (Passed (as_gauges gauges.now) (as_world self.old) self.old.tally.counts (pokes acts) (as_world self.new) self.new.tally.counts) }
+        ensures short { OnErr result (CutShort (as_gauges gauges.now) (as_world self.old) self.old.tally.counts (pokes acts) (as_world self.new) self.new.tally.counts) }
     {
         for i in 0..MACHINES {
             self.poke(i);
@@ -154,7 +156,8 @@ impl World {
         j: u64,
         acts: u64,
     ) -> Result<(), AllocError>
-        ensures { OnOk result (Passed (as_gauges gauges.now) (as_world self.old) self.old.tally.counts (letters_to acts j) (as_world self.new) self.new.tally.counts) }
+        ensures passed { OnOk result (Passed (as_gauges gauges.now) (as_world self.old) self.old.tally.counts (letters_to acts j) (as_world self.new) self.new.tally.counts) }
+        ensures short { OnErr result (CutShort (as_gauges gauges.now) (as_world self.old) self.old.tally.counts (letters_to acts j) (as_world self.new) self.new.tally.counts) }
     {
         for i in 0..MACHINES {
             self.deliver(i, j);
@@ -164,7 +167,8 @@ impl World {
     }
 
     fn round(&mut self, heap: Global, gauges: &[Vec<Reading>], acts: u64) -> Result<(), AllocError>
-        ensures { OnOk result (Passed (as_gauges gauges.now) (as_world self.old) self.old.tally.counts (a_round acts) (as_world self.new) self.new.tally.counts) }
+        ensures passed { OnOk result (Passed (as_gauges gauges.now) (as_world self.old) self.old.tally.counts (a_round acts) (as_world self.new) self.new.tally.counts) }
+        ensures short { OnErr result (CutShort (as_gauges gauges.now) (as_world self.old) self.old.tally.counts (a_round acts) (as_world self.new) self.new.tally.counts) }
     {
         self.poke_all(heap, gauges, acts)?;
         for j in 0..MACHINES {
@@ -181,7 +185,8 @@ impl World {
         rounds: u64,
         acts: u64,
     ) -> Result<(), AllocError>
-        ensures { OnOk result (Passed (as_gauges gauges.now) (as_world self.old) self.old.tally.counts (all_rounds rounds acts) (as_world self.new) self.new.tally.counts) }
+        ensures passed { OnOk result (Passed (as_gauges gauges.now) (as_world self.old) self.old.tally.counts (all_rounds rounds acts) (as_world self.new) self.new.tally.counts) }
+        ensures short { OnErr result (CutShort (as_gauges gauges.now) (as_world self.old) self.old.tally.counts (all_rounds rounds acts) (as_world self.new) self.new.tally.counts) }
     {
         for _ in 0..rounds {
             self.round(heap, gauges, acts)?;
@@ -189,7 +194,7 @@ impl World {
         Ok(())
     }
 
-    // One thing that happens.
+    // One thing that happens. Where there is no room, it is cut short between two acts.
     #[tactic(auto, using(crate::proofs::Unrolling::calm_goes), unfolding(machine::specs::Run::happened, crate::specs::Tallies::all_counted))]
     pub fn happen(
         &mut self,
@@ -199,6 +204,7 @@ impl World {
     ) -> Result<(), AllocError>
         ensures world { OnOk result (as_world self.new ≡ took_place (as_gauges gauges.now) (as_world self.old) item) }
         ensures counts { OnOk result (self.new.tally.counts ≡ all_counted (as_gauges gauges.now) (as_world self.old) (written_out item) self.old.tally.counts) }
+        ensures short { OnErr result (CutShort (as_gauges gauges.now) (as_world self.old) self.old.tally.counts (written_out item) (as_world self.new) self.new.tally.counts) }
     {
         match item {
             Item::Works(i, acts) => self.work(heap, gauges, i, acts)?,
