@@ -10,8 +10,7 @@ use text::{decimal, first_line, first_word};
 pub fn drawer_name(heap: Global, drawer: u64) -> Result<String, AllocError>
     ensures { IfOk result (λ s. string_bytes s ≡ codes "drawer-" ++ written drawer) }
 {
-    let name = format!(in heap; "drawer-{drawer}")?;
-    Ok(name)
+    Ok(format!(in heap; "drawer-{drawer}")?)
 }
 
 // The number that a file of one line has.
@@ -33,6 +32,5 @@ pub fn released(text: &[u8]) -> Option<u64>
 pub fn released_text(heap: Global, place: u64) -> Result<String, AllocError>
     ensures { IfOk result (λ s. lone_line (lines (string_bytes s)) ≡ Some place) }
 {
-    let text = format!(in heap; "{place}\n")?;
-    Ok(text)
+    Ok(format!(in heap; "{place}\n")?)
 }

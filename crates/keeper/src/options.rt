@@ -1,4 +1,7 @@
 // The words behind `station`.
+ghost use Rattle.std.specs.Prelude.{◌≡◌, Some, map, string_bytes};
+ghost use Rattle.keeper.specs.Words.{Answers, Finishes, Puts, Takes, as_given, asked, finished as ended, name_of, named, with_machine, with_value};
+
 use machine::MACHINES;
 use std::fmt;
 use std::str::FromStr;
@@ -32,6 +35,8 @@ pub enum UsageError {
 }
 
 impl fmt::Display for Name {
+    ghost output = { λ n. Some (name_of n) };
+
     fn fmt<W: fmt::Write>(&self, f: &mut fmt::Formatter<W>) -> fmt::Result {
         f.write_str(match self {
             Name::Drawers => "--drawers",
@@ -43,6 +48,8 @@ impl fmt::Display for Name {
 
 impl FromStr for Name {
     type Err = UsageError;
+
+    ghost from_str_gives = { λ word r. r ≡ named word };
 
     fn from_str(word: &str) -> Result<Name, UsageError> {
         match word {
@@ -78,21 +85,31 @@ struct Said {
     wall: Option<String>,
 }
 
+// Puts a value where there is none.
+fn once(place: &mut Option<String>, name: Name, value: String) -> Result<(), UsageError>
+    ensures { Puts name value place.old result place.new }
+{
+    if place.is_some() {
+        return Err(UsageError::Twice(name));
+    }
+    *place = Some(value);
+    Ok(())
+}
+
 impl Said {
-    fn set(&mut self, name: Name, value: String) -> Result<(), UsageError> {
-        let place = match name {
-            Name::Drawers => &mut self.drawers,
-            Name::Gauge => &mut self.gauge,
-            Name::Wall => &mut self.wall,
-        };
-        if place.is_some() {
-            return Err(UsageError::Twice(name));
+    fn set(&mut self, name: Name, value: String) -> Result<(), UsageError>
+        ensures { Takes (with_value (as_given self.old) name (string_bytes value)) result (as_given self.new) }
+    {
+        match name {
+            Name::Drawers => once(&mut self.drawers, name, value),
+            Name::Gauge => once(&mut self.gauge, name, value),
+            Name::Wall => once(&mut self.wall, name, value),
         }
-        *place = Some(value);
-        Ok(())
     }
 
-    fn set_machine(&mut self, word: &str) -> Result<(), UsageError> {
+    fn set_machine(&mut self, word: &str) -> Result<(), UsageError>
+        ensures { Takes (with_machine (as_given self.old) word.now) result (as_given self.new) }
+    {
         if self.machine.is_some() {
             return Err(UsageError::TwoMachines);
         }
@@ -101,7 +118,9 @@ impl Said {
         Ok(())
     }
 
-    fn finished(self) -> Result<Options, UsageError> {
+    fn finished(self) -> Result<Options, UsageError>
+        ensures { Finishes (ended (as_given self)) result }
+    {
         let Said {
             machine,
             drawers,
@@ -119,7 +138,9 @@ impl Said {
 
 impl Request {
     // What these words ask for.
-    pub fn read(words: Vec<String>) -> Result<Request, UsageError> {
+    pub fn read(words: Vec<String>) -> Result<Request, UsageError>
+        ensures { Answers (asked (map string_bytes words.items)) result }
+    {
         let mut said = Said {
             machine: None,
             drawers: None,

@@ -7,7 +7,8 @@ mod tests {
     use std::alloc::{AllocError, Global};
     use std::test::Fail;
     use wall_reader::{
-        Filter, Form, Hours, Mark, bar, chart, chosen, csv_text, parse_words, read, rows_text,
+        Filter, Form, Hours, Mark, bar, chart, chosen, csv_text, parse_words, print_and_read, read,
+        rows_text,
     };
 
     // A text, and what is said of it.
@@ -62,6 +63,17 @@ mod tests {
 
     const WALL: &str =
         "hour 9 place 1: 12\r\nhour 3 place 2: 7\n hour  12 place 1: 40\nhour 9 place 1: 12\nhour 9 place 0: 26\nhour 8 place 1: 80\n";
+
+    #[test]
+    fn a_row_that_is_printed_is_read(rt: HostRuntime) -> Result<(), Fail> {
+        let row = Row {
+            hour: 9,
+            place: 1023,
+            sum: u64::MAX,
+        };
+        assert!(rt; print_and_read(rt.alloc(), row)? == Ok(row));
+        Ok(())
+    }
 
     #[test]
     fn mistakes_are_told(rt: HostRuntime) -> Result<(), Fail> {

@@ -1,5 +1,6 @@
 mod Huts
 mod Posting
 mod Turning
+mod Shorts
 pub mod Unrolling
 pub mod Tallying

@@ -1,9 +1,9 @@
 -- Letters found and cut out of a list.
 use Rattle.std.proofs.Common.{◌≡◌, ℕ, suc, ◌<◌, ◌≤◌, Bool, true, false, not, List, [], ◌∷◌, length, get_or, cond, Some, None, sym, ◌+◌, one-add, refl, ap, arith}
-use Rattle.std.specs.List.{filter, position, position_or_len, remove}
+use Rattle.std.specs.List.{position, position_or_len, remove}
 use Rattle.std.proofs.lemmas.Option.{cond_some}
 use Rattle.std.proofs.lemmas.Bool.{ltb-true, ltb-false}
-use Rattle.sums.specs.Sums.{each, those, pick}
+use Rattle.sums.specs.Sums.{each, pick}
 use Rattle.machine.specs.Run as run
 use Rattle.machine.specs.Run.{is_between, touches, first_between, without_first}
 use Rattle.world.specs.Posts.{as_letter}

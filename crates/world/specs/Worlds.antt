@@ -1,5 +1,5 @@
 -- The world that is played, as one of the definitions.
-use Rattle.std.specs.Prelude.{◌≡◌, ℕ, Bool, true, false, List, [], vec_items}
+use Rattle.std.specs.Prelude.{◌≡◌, ℕ, Bool, true, false, List, [], ◌∷◌, ◌++◌, ◌<◌, vec_items, vec_len, vec_capacity}
 use Rattle.sums.specs.Sums.{each, Gauges}
 use Rattle.machine.specs.Run as run
 use Rattle.machine.specs.Entry.{own}
@@ -20,6 +20,10 @@ as_world w = record {
   fault = w.fault;
 }
 
+-- room for a row and for a letter
+abbrev pub HasRoom : World → Type 0
+HasRoom w = (vec_len w.told < vec_capacity w.told) × (vec_len w.wires < vec_capacity w.wires)
+
 -- one step of a machine, where it does not rest
 abbrev pub Went : Gauges → run.World → ℕ → Bool → run.World → Type 0
 Went gs w i true w₁ = w₁ ≡ one_step own gs w i (machine_at w.machines i).pending
@@ -37,3 +41,14 @@ took_place gs w (Calm k n) = calm k n own gs w
 pub record Passed (gs : Gauges) (w : run.World) (cs : List ℕ) (its : List run.Item) (w₁ : run.World) (cs₁ : List ℕ) : Type 0 where
   pub world : w₁ ≡ all_happened own gs w its
   pub counts : cs₁ ≡ all_counted gs w its cs
+
+-- where there was no room: a beginning of these things happened, and its end is a machine's work, cut short between two acts
+pub record CutShort (gs : Gauges) (w : run.World) (cs : List ℕ) (its : List run.Item) (w₁ : run.World) (cs₁ : List ℕ) : Type 0 where
+  pub before : List run.Item
+  pub after : List run.Item
+  pub i : ℕ
+  pub acts : ℕ
+  pub fewer : ℕ
+  pub parts : its ≡ before ++ works i acts ∷ after
+  pub less : fewer < acts
+  pub passed : Passed gs w cs (before ++ works i fewer ∷ []) w₁ cs₁

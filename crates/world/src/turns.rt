@@ -1,11 +1,11 @@
 // What happens to the world: machines work, letters come, lightning strikes, calm.
-ghost use Rattle.std.specs.Prelude.{◌≡◌, false, IfOk, OnOk};
+ghost use Rattle.std.specs.Prelude.{◌≡◌, false, [], ◌∷◌, IfOk, OnOk, OnErr};
 ghost use Rattle.machine.specs.Entry.{own};
-ghost use Rattle.machine.specs.Run.{machine_at, nth_row, poked, delivered, fallen, goes};
+ghost use Rattle.machine.specs.Run.{machine_at, nth_row, poked, delivered, fallen, goes, works};
 ghost use Rattle.sums.specs.Readings.{as_row, as_gauges};
 ghost use Rattle.world.specs.Rounds.{pokes, letters_to, a_round, all_rounds, written_out};
 ghost use Rattle.world.specs.Tallies.{next_counted, acts_counted, all_counted};
-ghost use Rattle.world.specs.Worlds.{as_world, Went, took_place, Passed};
+ghost use Rattle.world.specs.Worlds.{as_world, HasRoom, Went, took_place, Passed, CutShort};
 
 use crate::tally::Kind;
 use crate::wires::{cut, take_letter};
@@ -73,6 +73,7 @@ impl World {
     fn make_room(&mut self) -> Result<(), AllocError>
         ensures world { as_world self.new ≡ as_world self.old }
         ensures counts { self.new.tally.counts ≡ self.old.tally.counts }
+        ensures room { OnOk result (HasRoom self.new) }
     {
         self.told.reserve(1)?;
         self.wires.reserve(1)
@@ -82,14 +83,17 @@ impl World {
     fn step(&mut self, heap: Global, gauges: &[Vec<Reading>], i: u64) -> Result<bool, AllocError>
         ensures world { IfOk result (λ go. Went (as_gauges gauges.now) (as_world self.old) i go (as_world self.new)) }
         ensures counts { OnOk result (self.old.fault ≡ false → self.new.tally.counts ≡ next_counted (as_gauges gauges.now) (as_world self.old) i (machine_at (as_world self.old).machines i).pending self.old.tally.counts) }
+        ensures unmoved { OnErr result ((as_world self.new ≡ as_world self.old) × (self.new.tally.counts ≡ self.old.tally.counts)) }
     {
         self.make_room()?;
         self.turn(heap, gauges, i)
     }
 
     fn turn(&mut self, heap: Global, gauges: &[Vec<Reading>], i: u64) -> Result<bool, AllocError>
+        requires { HasRoom self.old }
         ensures world { IfOk result (λ go. Went (as_gauges gauges.now) (as_world self.old) i go (as_world self.new)) }
         ensures counts { OnOk result (self.old.fault ≡ false → self.new.tally.counts ≡ next_counted (as_gauges gauges.now) (as_world self.old) i (machine_at (as_world self.old).machines i).pending self.old.tally.counts) }
+        ensures unmoved { OnErr result ((as_world self.new ≡ as_world self.old) × (self.new.tally.counts ≡ self.old.tally.counts)) }
     {
         let Some(hut) = self.huts.get_mut(i as usize) else {
             return Ok(false);
@@ -99,7 +103,7 @@ impl World {
             return Ok(false);
         };
         let kind = Kind::from(&effect);
-        self.post(i, effect)?;
+        self.post(i, effect);
         self.tally.count(kind);
         Ok(true)
     }
@@ -114,6 +118,7 @@ impl World {
     ) -> Result<(), AllocError>
         ensures world { OnOk result (as_world self.new ≡ goes acts own (as_gauges gauges.now) (as_world self.old) i) }
         ensures counts { OnOk result (self.new.tally.counts ≡ acts_counted acts (as_gauges gauges.now) (as_world self.old) i self.old.tally.counts) }
+        ensures short { OnErr result (CutShort (as_gauges gauges.now) (as_world self.old) self.old.tally.counts (works i acts ∷ []) (as_world self.new) self.new.tally.counts) }
     {
         for _ in 0..acts {
             if self.fault {
@@ -133,7 +138,8 @@ impl World {
         gauges: &[Vec<Reading>],
         acts: u64,
     ) -> Result<(), AllocError>
-        ensures { OnOk result (Passed (as_gauges gauges.now) (as_world self.old) self.old.tally.counts (pokes acts) (as_world self.new) self.new.tally.counts) }
+        ensures passed { OnOk result (Passed (as_gauges gauges.now) (as_world self.old) self.old.tally.counts (pokes acts) (as_world self.new) self.new.tally.counts) }
+        ensures short { OnErr result (CutShort (as_gauges gauges.now) (as_world self.old) self.old.tally.counts (pokes acts) (as_world self.new) self.new.tally.counts) }
     {
         for i in 0..MACHINES {
             self.poke(i);
@@ -150,7 +156,8 @@ impl World {
         j: u64,
         acts: u64,
     ) -> Result<(), AllocError>
-        ensures { OnOk result (Passed (as_gauges gauges.now) (as_world self.old) self.old.tally.counts (letters_to acts j) (as_world self.new) self.new.tally.counts) }
+        ensures passed { OnOk result (Passed (as_gauges gauges.now) (as_world self.old) self.old.tally.counts (letters_to acts j) (as_world self.new) self.new.tally.counts) }
+        ensures short { OnErr result (CutShort (as_gauges gauges.now) (as_world self.old) self.old.tally.counts (letters_to acts j) (as_world self.new) self.new.tally.counts) }
     {
         for i in 0..MACHINES {
             self.deliver(i, j);
@@ -160,7 +167,8 @@ impl World {
     }
 
     fn round(&mut self, heap: Global, gauges: &[Vec<Reading>], acts: u64) -> Result<(), AllocError>
-        ensures { OnOk result (Passed (as_gauges gauges.now) (as_world self.old) self.old.tally.counts (a_round acts) (as_world self.new) self.new.tally.counts) }
+        ensures passed { OnOk result (Passed (as_gauges gauges.now) (as_world self.old) self.old.tally.counts (a_round acts) (as_world self.new) self.new.tally.counts) }
+        ensures short { OnErr result (CutShort (as_gauges gauges.now) (as_world self.old) self.old.tally.counts (a_round acts) (as_world self.new) self.new.tally.counts) }
     {
         self.poke_all(heap, gauges, acts)?;
         for j in 0..MACHINES {
@@ -177,7 +185,8 @@ impl World {
         rounds: u64,
         acts: u64,
     ) -> Result<(), AllocError>
-        ensures { OnOk result (Passed (as_gauges gauges.now) (as_world self.old) self.old.tally.counts (all_rounds rounds acts) (as_world self.new) self.new.tally.counts) }
+        ensures passed { OnOk result (Passed (as_gauges gauges.now) (as_world self.old) self.old.tally.counts (all_rounds rounds acts) (as_world self.new) self.new.tally.counts) }
+        ensures short { OnErr result (CutShort (as_gauges gauges.now) (as_world self.old) self.old.tally.counts (all_rounds rounds acts) (as_world self.new) self.new.tally.counts) }
     {
         for _ in 0..rounds {
             self.round(heap, gauges, acts)?;
@@ -185,7 +194,7 @@ impl World {
         Ok(())
     }
 
-    // One thing that happens.
+    // One thing that happens. Where there is no room, it is cut short between two acts.
     #[tactic(auto, using(crate::proofs::Unrolling::calm_goes), unfolding(machine::specs::Run::happened, crate::specs::Tallies::all_counted))]
     pub fn happen(
         &mut self,
@@ -195,6 +204,7 @@ impl World {
     ) -> Result<(), AllocError>
         ensures world { OnOk result (as_world self.new ≡ took_place (as_gauges gauges.now) (as_world self.old) item) }
         ensures counts { OnOk result (self.new.tally.counts ≡ all_counted (as_gauges gauges.now) (as_world self.old) (written_out item) self.old.tally.counts) }
+        ensures short { OnErr result (CutShort (as_gauges gauges.now) (as_world self.old) self.old.tally.counts (written_out item) (as_world self.new) self.new.tally.counts) }
     {
         match item {
             Item::Works(i, acts) => self.work(heap, gauges, i, acts)?,

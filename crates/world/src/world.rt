@@ -1,10 +1,10 @@
 // Eight machines in their huts, the wires between them, and the wall.
-ghost use Rattle.std.specs.Prelude.{◌≡◌, IfOk, OnOk};
+ghost use Rattle.std.specs.Prelude.{◌≡◌, IfOk};
 ghost use Rattle.machine.specs.Entry.{own};
 ghost use Rattle.machine.specs.Run.{new_world};
 ghost use Rattle.hut.specs.Effects.{posted};
 ghost use Rattle.world.specs.Tallies.{none_counted};
-ghost use Rattle.world.specs.Worlds.{as_world};
+ghost use Rattle.world.specs.Worlds.{as_world, HasRoom};
 
 use crate::post::Letter;
 use crate::tally::Tally;
@@ -48,17 +48,21 @@ impl World {
     }
 
     // What is seen of an act of machine i: a row goes on the wall, a letter on the wires.
-    pub(crate) fn post(&mut self, i: u64, effect: Effect) -> Result<(), AllocError>
-        ensures world { OnOk result (as_world self.new ≡ posted (as_world self.old) i effect) }
+    pub(crate) fn post(&mut self, i: u64, effect: Effect)
+        requires { HasRoom self.old }
+        ensures world { as_world self.new ≡ posted (as_world self.old) i effect }
         ensures counts { self.new.tally.counts ≡ self.old.tally.counts }
     {
         match effect {
-            Effect::Told(row) => self.told.push(row)?,
-            Effect::Sent(reader, text) => self.wires.push(Letter {
-                sender: i,
-                reader,
-                text,
-            })?,
+            Effect::Told(row) => self.told.push(row).unwrap(),
+            Effect::Sent(reader, text) => self
+                .wires
+                .push(Letter {
+                    sender: i,
+                    reader,
+                    text,
+                })
+                .unwrap(),
             Effect::Fault => self.fault = true,
             Effect::Asked
             | Effect::Sought(_)
@@ -67,6 +71,5 @@ impl World {
             | Effect::Recalled(_)
             | Effect::Rested => {}
         }
-        Ok(())
     }
 }

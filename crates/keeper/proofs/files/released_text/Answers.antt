@@ -6,5 +6,5 @@ use Rattle.keeper.proofs.files.released_text.Goals as goal
 
 pub returns : goal.returns
 returns c =
-    ap (λ bs. lone_line (lines bs)) c.in_ok-text.ensures.ok
+    ap (λ bs. lone_line (lines bs)) c.in_ok-format.ensures.ok
     ∙ number_back c.args.place (search rules)

@@ -1,10 +1,11 @@
-use Rattle.std.proofs.Common.{◌≡◌, [], ◌∷◌, sym, subst, arith}
+use Rattle.std.proofs.Common.{◌≡◌, [], ◌∷◌, sym, subst, arith, rules}
 use Rattle.sums.specs.Readings.{as_gauges}
 use Rattle.machine.specs.Run.{up_to, poke, works}
 use Rattle.world.specs.Rounds.{in_turn}
 use Rattle.world.specs.Worlds.{as_world, Passed}
 use Rattle.world.proofs.Unrolling.{in_turn_more}
 use Rattle.world.proofs.Tallying.{passed_none, passed_both, passed_poke}
+use Rattle.world.proofs.Shorts.{short_after, short_turn, passed_poked}
 use Rattle.world.proofs.world.World.poke_all.Goals as goal
 
 pub loop-i-init : goal.loop-i-init
@@ -23,8 +24,22 @@ loop-i-preserved c =
     subst (λ its. Passed gs w cs its (as_world c.work.new.self) c.work.new.self.tally.counts) (sym (in_turn_more (λ i. poke i ∷ works i n ∷ []) l.i))
     (passed_both gs w (as_world l.self) (as_world c.work.new.self) cs l.self.tally.counts c.work.new.self.tally.counts _ _ l.invariant one)
 
-pub returns : goal.returns
-returns c =
+pub returns-clause-passed : goal.returns-clause-passed
+returns-clause-passed c =
     let n = c.args.acts in
     let eight : c.loop-i.i ≡ 8 = omega arith in
     subst (λ k. Passed (as_gauges c.args.gauges.now) (as_world c.args.self.now) c.args.self.now.tally.counts (in_turn (λ i. poke i ∷ works i n ∷ []) (up_to k)) (as_world c.loop-i.self) c.loop-i.self.tally.counts) eight c.loop-i.invariant
+
+pub returns-in_err-work-clause-short : goal.returns-in_err-work-clause-short
+returns-in_err-work-clause-short c =
+    let gs = as_gauges c.args.gauges.now in
+    let n = c.args.acts in
+    let l = c.loop-i in
+    let w = as_world c.args.self.now in
+    let cs = c.args.self.now.tally.counts in
+    let u = c.poke.new.self in
+    let v = c.work.new.self in
+    let first = passed_poked gs (as_world l.self) (as_world c.poke.new.self) l.self.tally.counts c.poke.new.self.tally.counts l.i c.poke.ensures.world c.poke.ensures.counts in
+    let turn = short_after gs (as_world l.self) l.self.tally.counts (as_world v) v.tally.counts (as_world u) u.tally.counts (poke l.i ∷ []) (works l.i n ∷ []) first c.in_err-work.ensures.short in
+    let short = short_turn gs w cs (as_world v) v.tally.counts (as_world l.self) l.self.tally.counts (λ i. poke i ∷ works i n ∷ []) l.i 8 c.loop-i-test.true l.invariant turn in
+    search (rules, short)
