@@ -1,5 +1,5 @@
 // What is counted of rivers that were played.
-ghost use Rattle.std.specs.Prelude.{◌≡◌, ◌+◌, ◌*◌, ◌/◌, ◌%◌, IfOk, MatchOption};
+ghost use Rattle.std.specs.Prelude.{◌≡◌, ◌+◌, ◌*◌, ◌/◌, ◌%◌, ◌<◌, IfOk, MatchOption};
 ghost use Rattle.sums.specs.Readings.{as_gauges};
 ghost use Rattle.machine.specs.Entry.{own};
 ghost use Rattle.machine.specs.Run.{new_world};
@@ -70,7 +70,7 @@ pub struct Ratio {
 impl Ratio {
     // None where there is nothing to divide by.
     pub fn new(of: u64, to: u64) -> Option<Ratio>
-        ensures { MatchOption result (to ≡ 0) (λ q. (q.whole ≡ of / to) × (q.hundredths ≡ of % to * 100 / to)) }
+        ensures { MatchOption result (to ≡ 0) (λ q. (0 < to) × (q.whole ≡ of / to) × (q.hundredths ≡ of % to * 100 / to)) }
     {
         if to == 0 {
             return None;
