@@ -13,14 +13,14 @@ use Rattle.keeper.specs.declared.options.Request.{Request}
 use Rattle.keeper.specs.declared.options.Name.{Name}
 use Rattle.keeper.specs.declared.options.UsageError.{UsageError}
 use Rattle.keeper.specs.declared.options.UsageError.TheVariants.{MissingValue}
-use Rattle.keeper.specs.Words.{Answers, Asked, Given, asked_from, help, named, on, on_name, with_machine, with_value}
+use Rattle.keeper.specs.Words.{Answers, Asked, Given, asked_from, help, named, on, with_machine, with_value}
 
 module _ (w : Bytes) (ws : List Bytes) (g : Given) where
   asked_help : bytes_eq w (codes "--help") ≡ true → asked_from (w ∷ ws) None g ≡ Ok help
   unfolding asked_from
   asked_help h = simp h
 
-  asked_option : bytes_eq w (codes "--help") ≡ false → starts_with eqb w (codes "-") ≡ true → asked_from (w ∷ ws) None g ≡ on_name (named w) (λ n. asked_from ws (Some n) g)
+  asked_option : bytes_eq w (codes "--help") ≡ false → starts_with eqb w (codes "-") ≡ true → asked_from (w ∷ ws) None g ≡ on (named w) (λ n. asked_from ws (Some n) g)
   unfolding asked_from
   asked_option h d = simp (h, d)
 
@@ -37,7 +37,7 @@ module _ (hs : List (String Global)) (s : String Global) (rest : List (String Gl
   said_help h = begun ∙ asked_help w (map string_bytes rest) g (sym h)
 
   pub said_option : false ≡ bytes_eq w (codes "--help") → starts_with eqb w (codes "-") ≡ true →
-      asked_from (map string_bytes hs) None g ≡ on_name (named w) (λ n. asked_from (map string_bytes rest) (Some n) g)
+      asked_from (map string_bytes hs) None g ≡ on (named w) (λ n. asked_from (map string_bytes rest) (Some n) g)
   said_option h d = begun ∙ asked_option w (map string_bytes rest) g (sym h) d
 
   pub said_number : false ≡ bytes_eq w (codes "--help") → starts_with eqb w (codes "-") ≡ false →

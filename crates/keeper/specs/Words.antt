@@ -78,13 +78,9 @@ all_given (Some i) (Some d) (Some g) (Some w) = Ok (run i d g w)
 abbrev pub finished : Given → Result Asked UsageError
 finished g = all_given g.machine g.drawers g.gauge g.wall
 
-abbrev pub on : Result Given UsageError → (Given → Result Asked UsageError) → Result Asked UsageError
-on (Ok g) next = next g
+abbrev pub on : {A : Type 0} → Result A UsageError → (A → Result Asked UsageError) → Result Asked UsageError
+on (Ok x) next = next x
 on (Err e) next = Err e
-
-abbrev pub on_name : Result Name UsageError → (Name → Result Asked UsageError) → Result Asked UsageError
-on_name (Ok n) next = next n
-on_name (Err e) next = Err e
 
 -- word after word, a value behind its option's name; the first that is wrong ends it, and so does `--help`
 unfoldable pub asked_from : List Bytes → Option Name → Given → Result Asked UsageError
@@ -93,7 +89,7 @@ asked_from [] None g = finished g
 asked_from (w ∷ ws) (Some n) g = on (with_value g n w) (asked_from ws None)
 asked_from (w ∷ ws) None g =
     cond (bytes_eq w (codes "--help")) (Ok help)
-    (cond (starts_with eqb w (codes "-")) (on_name (named w) (λ n. asked_from ws (Some n) g))
+    (cond (starts_with eqb w (codes "-")) (on (named w) (λ n. asked_from ws (Some n) g))
     (on (with_machine g w) (asked_from ws None)))
 
 abbrev pub asked : List Bytes → Result Asked UsageError

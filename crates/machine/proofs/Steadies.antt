@@ -15,9 +15,6 @@ use Rattle.sums.proofs.Everys.{every_append, every_set, every_weaker}
 use Rattle.sums.proofs.Overwrites.{length_written}
 use Rattle.store.specs.Drawers.{page_drawer}
 use Rattle.store.specs.Records.{root_of, cursor_of, set_number}
-use Rattle.store.specs.declared.records.PageSet.{PageSet}
-use Rattle.store.specs.declared.records.PageSet.TheVariants.{First, Second}
-use Rattle.store.specs.declared.records.PageSet.TheVariants as page_set
 use Rattle.store.specs.declared.records.Root.{Root}
 use Rattle.store.proofs.RoundTrips.{set_fits}
 use Rattle.gauge.specs.Memory.{cells, sums_at, counts_at, phase_in, index_in, begun_in, hour_in, pos_in, set_in, sums_in, counts_in, placed, released, reading, saved, rooted, told, noted, closed, asks_root, asks_page, asks_cursor}

@@ -7,11 +7,7 @@ use std::fmt::Display;
 use std::process::ExitCode;
 
 // The status of a program, by what came of its work; what is wrong is said once, on standard error.
-pub fn status<E: Display + Drop>(
-    rt: &HostRuntime,
-    program: &str,
-    done: Result<(), E>,
-) -> ExitCode
+pub fn status<E: Display + Drop>(rt: &HostRuntime, program: &str, done: Result<(), E>) -> ExitCode
     ensures well { OnOk done (result ≡ ExitCode.SUCCESS) }
     ensures wrong { OnErr done (result ≡ ExitCode.FAILURE) }
 {

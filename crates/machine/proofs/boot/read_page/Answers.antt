@@ -1,8 +1,7 @@
-use Rattle.std.proofs.Common.{◌≡◌, ℕ, ◌+◌, ◌*◌, ◌<◌, ◌≤◌, true, false, eqb, List, ◌++◌, length, take, drop, is_ok, Ok, Err, Result, OnOk, if◌then◌else◌, cond, length-drop, refl, sym, ap, ◌∙◌, ⊎_elim, append_assoc, arith}
+use Rattle.std.proofs.Common.{◌≡◌, ℕ, ◌+◌, ◌*◌, ◌<◌, true, false, eqb, List, ◌++◌, length, drop, is_ok, Ok, Err, Result, OnOk, if◌then◌else◌, cond, length-drop, refl, sym, ap, ◌∙◌, ⊎_elim, arith}
 use borrow.Rule.Slice.PartMut.{mid_of, put_mid, put_same}
-use Rattle.std.proofs.Math.Seq.{take-append-add, drop-append-add}
 use Rattle.std.proofs.lemmas.Bool.{eq-eqb, and_from, cases_Bool}
-use Rattle.std.proofs.lemmas.List.{take-append-le, drop-append-le, length-take-le}
+use Rattle.std.proofs.lemmas.List.{length-take-le}
 use Rattle.sums.specs.Cells.{places, pages, slots}
 use Rattle.sums.specs.Pages.{page_length, page_sums, page_counts, decode_answer, sums_read, counts_read, numbers_fit, rows_fit}
 use Rattle.sums.specs.Written.{written}

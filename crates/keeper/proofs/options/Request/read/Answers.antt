@@ -1,7 +1,7 @@
 use Rattle.std.proofs.Common.{map, Some, None, codes, string_bytes, sym, ap, ◌∙◌}
 use Rattle.std.specs.Vec.Iter.{into_iter_items}
 use Rattle.std.proofs.lemmas.Str.Pattern.{starts_text}
-use Rattle.keeper.specs.Words.{as_given, asked_from, on, on_name}
+use Rattle.keeper.specs.Words.{as_given, asked_from, on}
 use Rattle.keeper.proofs.Asking.{said_help, said_option, said_number, none_left, no_value, some_value, answered}
 use Rattle.keeper.proofs.options.Request.read.Goals.{then-starts_with+in_ok-name+in_ok-value+in_ok-set, else-starts_with+in_ok-set_machine}
 use Rattle.keeper.proofs.options.Request.read.Goals as goal
@@ -20,7 +20,7 @@ returns-in_err-name c =
     let dash = sym (starts_text c.starts_with.result (codes "-") c.as_str-word.result.now c.starts_with.ensures.cases) ∙ c.if-starts_with.true in
     answered _ c.from_residual.result c.in_err-name.field-0.0 c.from_residual.ensures.1
     (sym c.loop-word.invariant ∙ said_option hs c.in-Some.word rest c.as_str-word.result.now g c.in-Some.ensures.items c.as_str-word.ensures.value c.if-eq.ensures dash
-    ∙ ap (λ n. on_name n (λ n. asked_from (map string_bytes rest) (Some n) g)) (sym c.in_err-name.ensures.value))
+    ∙ ap (λ n. on n (λ n. asked_from (map string_bytes rest) (Some n) g)) (sym c.in_err-name.ensures.value))
 
 pub returns-in_err-value : goal.returns-in_err-value
 returns-in_err-value c =
@@ -30,7 +30,7 @@ returns-in_err-value c =
     let dash = sym (starts_text c.starts_with.result (codes "-") c.as_str-word.result.now c.starts_with.ensures.cases) ∙ c.if-starts_with.true in
     let option =
     sym c.loop-word.invariant ∙ said_option hs c.in-Some.word rest c.as_str-word.result.now g c.in-Some.ensures.items c.as_str-word.ensures.value c.if-eq.ensures dash
-    ∙ ap (λ n. on_name n (λ n. asked_from (map string_bytes rest) (Some n) g)) (sym c.in_ok-name.ensures.value) in
+    ∙ ap (λ n. on n (λ n. asked_from (map string_bytes rest) (Some n) g)) (sym c.in_ok-name.ensures.value) in
     answered _ c.from_residual-in_err-value.result c.in_err-value.field-0.0 c.from_residual-in_err-value.ensures.1
     (option ∙ no_value c.next.new.self c.next-then-starts_with.new.self c.next-then-starts_with.result c.in_ok-name.name g c.in_err-value.field-0.0
     c.next-then-starts_with.ensures.cases c.in_err-value.ensures.variant c.in_err-value.ensures.value)
@@ -43,7 +43,7 @@ returns-in_err-set c =
     let dash = sym (starts_text c.starts_with.result (codes "-") c.as_str-word.result.now c.starts_with.ensures.cases) ∙ c.if-starts_with.true in
     let option =
     sym c.loop-word.invariant ∙ said_option hs c.in-Some.word rest c.as_str-word.result.now g c.in-Some.ensures.items c.as_str-word.ensures.value c.if-eq.ensures dash
-    ∙ ap (λ n. on_name n (λ n. asked_from (map string_bytes rest) (Some n) g)) (sym c.in_ok-name.ensures.value) in
+    ∙ ap (λ n. on n (λ n. asked_from (map string_bytes rest) (Some n) g)) (sym c.in_ok-name.ensures.value) in
     answered _ c.from_residual-in_err-set.result c.in_err-set.field-0.0 c.from_residual-in_err-set.ensures.1
     (option
     ∙ some_value c.next.new.self c.next-then-starts_with.new.self c.next-then-starts_with.result c.in_ok-value.value c.in_ok-name.name g c.next-then-starts_with.ensures.cases c.in_ok-value.ensures.ok_part
@@ -85,7 +85,7 @@ loop-word-preserved c =
           let left = w.next-then-starts_with.new.self in
           let option =
           said_option hs c.in-Some.word rest c.as_str-word.result.now g c.in-Some.ensures.items c.as_str-word.ensures.value c.if-eq.ensures dash
-          ∙ ap (λ n. on_name n (λ n. asked_from (map string_bytes rest) (Some n) g)) (sym w.in_ok-name.ensures.value)
+          ∙ ap (λ n. on n (λ n. asked_from (map string_bytes rest) (Some n) g)) (sym w.in_ok-name.ensures.value)
           ∙ some_value c.next.new.self left w.next-then-starts_with.result w.in_ok-value.value w.in_ok-name.name g w.next-then-starts_with.ensures.cases w.in_ok-value.ensures.ok_part
           ∙ ap (λ x. on x (asked_from (map string_bytes (into_iter_items left)) None)) w.in_ok-set.ensures in
           rw (w.said-is, w.words-is, sym option, c.loop-word.invariant)
