@@ -1,10 +1,11 @@
 -- What is printed. Assumes nothing: these are definitions.
-use Rattle.std.specs.Prelude.{◌≡◌, ℕ, Bool, true, false, List, ◌++◌, Option, length, codes, decimal}
+use Rattle.std.specs.Prelude.{◌≡◌, ℕ, Bool, true, false, List, ◌++◌, Ok, Option, IfSome, length, codes, decimal}
+use Rattle.std.specs.Str.{bytes_eq}
 use Rattle.std.specs.Io.KnownBytes.{Keeps, Appends}
 use Rattle.sums.specs.Sums.{Gauges, ToldSum}
 use Rattle.machine.specs.Run as run
 use Rattle.promise.specs.Promise.{Safe, core}
-use Rattle.river.specs.declared.model.Item.{Item}
+use Rattle.river.specs.Rivers.{ToldRiver, river_of}
 use Rattle.rows.specs.Walls.{ToTell, wrong_rows}
 use Rattle.text.specs.Text.{Bytes}
 use Rattle.text.specs.Written.{lined, lines_of}
@@ -30,9 +31,21 @@ wall_text ts = lines_of told_line ts
 abbrev pub untold_text : List ToldSum → Bytes
 untold_text ts = lines_of untold_line ts
 
+-- a text is the input's where the file is `-`, if it is known what the input has
+abbrev pub IsFrom : (file : Bytes) → (input : Option Bytes) → Bytes → Type 0
+IsFrom file input text = bytes_eq file (codes "-") ≡ true → IfSome input (λ bs. text ≡ bs)
+
+-- the river that such a text tells of
+abbrev pub TellsOf : (file : Bytes) → (input : Option Bytes) → ToldRiver → Type 0
+TellsOf file input r = (text : Bytes) × IsFrom file input text × (river_of 268435456 text ≡ Ok r)
+
 -- just the rows that are to be told are printed, in order
 abbrev pub ListsAll : Gauges → Option Bytes → Option Bytes → Type 0
 ListsAll gs old new = (ts : List ToldSum) × ToTell gs ts × Appends old new (wall_text ts)
+
+-- the same of the river that the file has
+abbrev pub ListsOne : (file : Bytes) → (input old new : Option Bytes) → Type 0
+ListsOne file input old new = (r : ToldRiver) × TellsOf file input r × ListsAll r.gauges old new
 
 -- counts and a verdict
 abbrev pub verdict_line : (readings told wrong untold : ℕ) → Verdict → Bytes
@@ -73,6 +86,7 @@ QuietIfRight s old new = all_right s ≡ true → Keeps old new
 abbrev pub ShowsScore : (Score → Bytes) → Score → Option Bytes → Option Bytes → Type 0
 ShowsScore line s old new = (all_right s ≡ true) × Appends old new (lined (line s))
 
--- one river was played, of which only the first gauge has readings: no machine is at fault in its world, and every row on the wall is right
-abbrev pub PlaysOne : Option Bytes → Option Bytes → Type 0
-PlaysOne old new = (gs : Gauges) × (its : List Item) × (core gs ≡ true) × Safe gs (played gs its) × ShowsPlay gs (played gs its) old new
+-- the river was played, of which only the first gauge has readings: no machine is at fault in its world, and every row on the wall is right
+abbrev pub PlaysOne : (file : Bytes) → (input old new : Option Bytes) → Type 0
+PlaysOne file input old new =
+    (r : ToldRiver) × TellsOf file input r × (core r.gauges ≡ true) × Safe r.gauges (played r.gauges r.course) × ShowsPlay r.gauges (played r.gauges r.course) old new

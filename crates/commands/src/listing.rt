@@ -1,16 +1,15 @@
 // Rows, printed a line each.
 ghost use Rattle.std.specs.Prelude.{OnOk};
-ghost use Rattle.sums.specs.Sums.{Gauges};
 ghost use Rattle.sums.specs.Readings.{as_gauges};
 ghost use Rattle.std.specs.Io.KnownBytes.{Appends};
 ghost use Rattle.rows.specs.Walls.{as_wall};
-ghost use Rattle.commands.specs.Printed.{wall_text, untold_text, ListsAll};
+ghost use Rattle.commands.specs.Printed.{wall_text, untold_text, ListsAll, ListsOne};
 
 use crate::input::read_any;
 use rows::Row;
 use std::alloc::Global;
 use std::io;
-use std::io::Write;
+use std::io::{Read, Write};
 use sums::Reading;
 
 pub fn print_rows<W: Write>(out: &mut W, rows: &[Row]) -> io::Result<()>
@@ -41,9 +40,14 @@ fn print_sums_of<W: Write>(heap: Global, out: &mut W, gauges: &[Vec<Reading>]) -
     Ok(())
 }
 
-pub fn print_sums<W: Write>(rt: &HostRuntime, out: &mut W, file: &str) -> anyhow::Result<()>
-    ensures { OnOk result ((gs : Gauges) × ListsAll gs (W.contents out.old) (W.contents out.new)) }
+pub fn print_sums<R: Read, W: Write>(
+    rt: &HostRuntime,
+    input: &mut R,
+    out: &mut W,
+    file: &str,
+) -> anyhow::Result<()>
+    ensures { OnOk result (ListsOne file.now (R.remaining input.old) (W.contents out.old) (W.contents out.new)) }
 {
-    let river = read_any(rt, file)?;
+    let river = read_any(rt, input, file)?;
     print_sums_of(rt.alloc(), out, river.gauges.as_slice())
 }

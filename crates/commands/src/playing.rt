@@ -16,21 +16,21 @@ use anyhow::anyhow;
 use play::{Judgement, Verdict};
 use river::{Item, River};
 use std::alloc::Global;
-use std::io::Write;
+use std::io::{Read, Write};
 use std::time::Instant;
 use sums::Reading;
 use world::World;
 
-#[tactic(auto, using(crate::proofs::Shown::played_safe))]
-pub fn play_file<W: Write>(
+pub fn play_file<R: Read, W: Write>(
     rt: &HostRuntime,
+    input: &mut R,
     out: &mut W,
     file: &str,
     stats: bool,
 ) -> anyhow::Result<()>
-    ensures { OnOk result (stats ≡ false → PlaysOne (W.contents out.old) (W.contents out.new)) }
+    ensures { OnOk result (stats ≡ false → PlaysOne file.now (R.remaining input.old) (W.contents out.old) (W.contents out.new)) }
 {
-    let river = read_river(rt, file)?;
+    let river = read_river(rt, input, file)?;
     if stats {
         play_timed(rt, out, &river)
     } else {

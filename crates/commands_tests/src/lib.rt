@@ -46,7 +46,7 @@ happens
 works 0 100
 ";
 
-    // Runs a command on a file with this text, in a folder of its own: what is printed, and behind it what is wrong, where something is.
+    // Runs a command on a file with this text, in a folder of its own, and the same text as its input: what is printed, and behind it what is wrong, where something is.
     fn run(rt: &HostRuntime, folder: &str, text: &str, line: &str) -> Result<String, Fail> {
         let heap = rt.alloc();
         if fs::exists(rt, folder)? {
@@ -60,13 +60,13 @@ works 0 100
             let word = if word == "FILE" { file.as_str() } else { word };
             words.push(String::from_str(heap, word)?)?;
         }
-        said(rt, words.as_slice())
+        said(rt, text, words.as_slice())
     }
 
-    fn said(rt: &HostRuntime, words: &[String]) -> Result<String, Fail> {
+    fn said(rt: &HostRuntime, input: &str, words: &[String]) -> Result<String, Fail> {
         let heap = rt.alloc();
         let mut out: Vec<u8> = Vec::new(heap);
-        let done = commands::run(rt, &mut out, words);
+        let done = commands::run(rt, &mut input.as_bytes(), &mut out, words);
         let Ok(printed) = String::from_utf8(out) else {
             return Err(Fail::new("what is printed is no text"));
         };
@@ -119,6 +119,22 @@ untold: hour 2 place 3: 5
         for line in ["play FILE", "play FILE --stats", "strike FILE"] {
             assert_eq!(rt; run(&rt, "not-played", TWO_GAUGES, line)?.as_str(), wanted);
         }
+        Ok(())
+    }
+
+    // `-` is the input.
+    #[test]
+    fn the_input(rt: HostRuntime) -> Result<(), Fail> {
+        let sums = "hour 0 place 1: 7\nhour 1 place 5: 2\n";
+        assert_eq!(rt; run(&rt, "input", TWO_GAUGES, "sums -")?.as_str(), sums);
+        let walls =
+            "14 walls, 15 rows told, 1 told again, 0 too often, 0 wrong, 0 untold, 0 faults\n";
+        assert_eq!(rt; run(&rt, "input", ONE_ROW, "strike -")?.as_str(), walls);
+        let wanted = "error: input/none cannot be read: No such file or directory (os error 2)";
+        assert_eq!(rt;
+            run(&rt, "input", ONE_ROW, "play input/none")?.as_str(),
+            wanted
+        );
         Ok(())
     }
 

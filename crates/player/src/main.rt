@@ -11,5 +11,5 @@ fn main(rt: HostRuntime) -> ExitCode {
 
 fn run(rt: &HostRuntime) -> anyhow::Result<()> {
     let words: Vec<String> = env::args(rt)?.skip(1).collect(rt.alloc())?;
-    commands::run(rt, &mut io::writer(rt), words.as_slice())
+    commands::run(rt, &mut rt.stdin(), &mut io::writer(rt), words.as_slice())
 }
