@@ -1,4 +1,9 @@
 // What the words ask for, read, chosen and printed.
+ghost use Rattle.std.specs.Prelude.{◌≡◌, IfOk, OnOk, IfSome, string_bytes};
+ghost use Rattle.sums.specs.Sums.{each};
+ghost use Rattle.wall_reader.specs.Requests.{asked_by};
+ghost use Rattle.wall_printer.specs.Printed.{Shows, Does};
+
 use crate::chart::print_chart;
 use rows::Row;
 use std::alloc::{AllocError, Global};
@@ -51,7 +56,9 @@ pub fn run<R: Read, W: Write>(
     words: Vec<String>,
     input: &mut R,
     out: &mut W,
-) -> Result<(), Failure> {
+) -> Result<(), Failure>
+    ensures { OnOk result (Does (asked_by (each string_bytes words.items)) (R.remaining input.old) (W.contents out.old) (W.contents out.new)) }
+{
     let heap = rt.alloc();
     let request = match parse_words(words.as_slice()) {
         Ok(request) => request,
@@ -80,7 +87,9 @@ fn print_rows<W: Write>(
     out: &mut W,
     rows: &[Row],
     form: Form,
-) -> Result<(), Failure> {
+) -> Result<(), Failure>
+    ensures { OnOk result (Shows form rows.now (W.contents out.old) (W.contents out.new)) }
+{
     let shown = match form {
         Form::Rows => rows_text(rt.alloc(), rows)?,
         Form::Csv => csv_text(rt.alloc(), rows)?,
@@ -98,7 +107,9 @@ fn read_file(rt: &HostRuntime, path: String) -> Result<String, Failure> {
     fs::read_to_string(rt, path.as_str()).map_err(|error| Failure::Input(path, error))
 }
 
-fn read_input<R: Read>(heap: Global, input: &mut R) -> Result<String, Failure> {
+fn read_input<R: Read>(heap: Global, input: &mut R) -> Result<String, Failure>
+    ensures { IfOk result (λ t. IfSome (R.remaining input.old) (λ bs. string_bytes t ≡ bs)) }
+{
     let mut text = String::new(heap);
     match input.read_to_string(&mut text) {
         Ok(_) => Ok(text),
