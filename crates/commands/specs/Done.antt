@@ -7,7 +7,9 @@ use Rattle.play.specs.declared.trials.Score.{Score}
 use Rattle.player_args.specs.Asked.{Asked, help, play, random, strike, sums}
 use Rattle.player_args.specs.declared.ArgsError.{ArgsError}
 use Rattle.player_args.specs.declared.TheConstants.{USAGE}
-use Rattle.commands.specs.Printed.{ListsOne, PlaysOne, ShowsScore, rivers_line, walls_line}
+use Rattle.report.specs.Printed.{ListsOne}
+use Rattle.playback.specs.Printed.{PlaysOne}
+use Rattle.trials.specs.Printed.{ShowsScore, rivers_line, walls_line}
 
 -- of a river that is played with figures, and of which rivers are played at random, nothing is said
 abbrev pub Does : Result Asked ArgsError → (input old new : Option Bytes) → Type 0

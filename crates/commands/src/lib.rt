@@ -3,41 +3,50 @@
 
 ghost use Rattle.std.specs.Prelude.{OnOk, map, string_bytes};
 ghost use Rattle.player_args.specs.Asked.{asked};
+ghost use Rattle.player_args.specs.Progress.{without_progress};
 ghost use Rattle.commands.specs.Done.{Does};
 
-mod input;
-mod lightning;
-mod listing;
-mod many;
-mod playing;
-mod progress;
-mod score;
-mod stats;
-
-use player_args::Command;
+use anyhow::anyhow;
+use player_args::{ArgsError, Command};
+use report::{Progress, print_sums, read_river};
+use status::Failure;
 use std::io::{Read, Write};
 
-// Does what the words ask for, and prints to the writer; a file `-` is the input. How far something long is, is said on standard error.
+// The word that is refused, where it is one, and why.
+fn refused(words: &[String], error: ArgsError) -> Failure {
+    match error.word().and_then(|at| words.get(at)) {
+        Some(word) => Failure::Refused(anyhow!("`{word}`: {error}")),
+        None => Failure::refused(error),
+    }
+}
+
+// Does what the words ask for, and prints to the writer; a file `-` is the input. How far something long is, is said on standard error where that is a terminal, or where the last word is `--progress`.
 pub fn run<R: Read, W: Write>(
     rt: &HostRuntime,
     input: &mut R,
     out: &mut W,
     words: &[String],
-) -> anyhow::Result<()>
-    ensures { OnOk result (Does (asked (map string_bytes words.now)) (R.remaining input.old) (W.contents out.old) (W.contents out.new)) }
+) -> Result<(), Failure>
+    ensures { OnOk result (Does (asked (without_progress (map string_bytes words.now))) (R.remaining input.old) (W.contents out.old) (W.contents out.new)) }
 {
-    match player_args::command_of(rt.alloc(), words)? {
+    let (progress, words) = player_args::progress_of(words);
+    let mut progress = Progress::new(rt, progress)?;
+    match player_args::command_of(rt.alloc(), words).map_err(|error| refused(words, error))? {
         Command::Help => {
             let usage = player_args::USAGE;
             writeln!(out, "{usage}")?;
             Ok(())
         }
-        Command::Play { file, stats } => playing::play_file(rt, input, out, file.as_str(), stats),
-        Command::Random { seed, rivers } => many::play_all(rt, out, seed, rivers),
-        Command::Strike { file, strokes } => {
-            let river = input::read_river(rt, input, file.as_str())?;
-            lightning::strike_all(rt, out, &river, strokes)
+        Command::Play { file, stats } => {
+            playback::play_file(rt, input, out, &mut progress, file.as_str(), stats)
         }
-        Command::Sums { file } => listing::print_sums(rt, input, out, file.as_str()),
+        Command::Random { seed, rivers } => {
+            trials::play_all(rt, out, &mut progress, seed, rivers)
+        }
+        Command::Strike { file, strokes } => {
+            let river = read_river(rt, input, file.as_str())?;
+            trials::strike_all(rt, out, &mut progress, &river, strokes)
+        }
+        Command::Sums { file } => print_sums(rt, input, out, file.as_str()),
     }
 }

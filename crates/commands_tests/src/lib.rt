@@ -46,6 +46,26 @@ happens
 works 0 100
 ";
 
+    // Strokes, and nothing for them to meet.
+    const NO_WORK: &str = "gauge 0
+10 1 4
+happens
+falls 0
+poke 0
+";
+
+    // Machines that could do more acts than are done between two looks at the clock, and rest before.
+    const LONG_CALM: &str = "gauge 0
+10 1 4
+50 2 0
+130 1 7
+210 3 5
+happens
+works 0 9000000
+falls 0
+calm 3 5000000
+";
+
     // Runs a command on a file with this text, in a folder of its own, and the same text as its input: what is printed, and behind it what is wrong, where something is.
     fn run(rt: &HostRuntime, folder: &str, text: &str, line: &str) -> Result<String, Fail> {
         let heap = rt.alloc();
@@ -89,6 +109,23 @@ hour 2 place 3: 5
         Ok(())
     }
 
+    // What is asked for is done in portions, and the same rows are printed.
+    #[test]
+    fn portions(rt: HostRuntime) -> Result<(), Fail> {
+        let wanted = "\
+hour 0 place 1: 4
+hour 0 place 2: 0
+hour 1 place 1: 7
+hour 2 place 3: 5
+4 readings, 4 rows told, 0 wrong, 0 untold: what is told is right, and all is told
+";
+        assert_eq!(rt;
+            run(&rt, "portions", LONG_CALM, "play FILE")?.as_str(),
+            wanted
+        );
+        Ok(())
+    }
+
     #[test]
     fn rows_that_are_not_told(rt: HostRuntime) -> Result<(), Fail> {
         let wanted = "\
@@ -115,7 +152,8 @@ untold: hour 2 place 3: 5
 
     #[test]
     fn a_river_that_is_not_played(rt: HostRuntime) -> Result<(), Fail> {
-        let wanted = "error: gauge 1 has readings, and only those of gauge 0 are added up so far";
+        let wanted =
+            "error: not-played/river: gauge 1 has readings, and only those of gauge 0 are added up so far";
         for line in ["play FILE", "play FILE --stats", "strike FILE"] {
             assert_eq!(rt; run(&rt, "not-played", TWO_GAUGES, line)?.as_str(), wanted);
         }
@@ -168,6 +206,15 @@ untold: hour 2 place 3: 5
         Ok(())
     }
 
+    #[test]
+    fn nothing_to_strike(rt: HostRuntime) -> Result<(), Fail> {
+        let wanted = "error: there is nothing to strike: no machine works in this river";
+        for line in ["strike FILE", "strike FILE 2"] {
+            assert_eq!(rt; run(&rt, "no-work", NO_WORK, line)?.as_str(), wanted);
+        }
+        Ok(())
+    }
+
     // The times, which differ, stand between the two.
     #[test]
     fn figures(rt: HostRuntime) -> Result<(), Fail> {
@@ -206,10 +253,17 @@ untold: hour 2 place 3: 5
 
     #[test]
     fn a_file_that_is_no_river(rt: HostRuntime) -> Result<(), Fail> {
-        let wanted = "error: line 2: there is no such place";
+        let wanted = "error: bad/river, line 2: there is no such place";
         for line in ["FILE", "sums FILE", "strike FILE"] {
             assert_eq!(rt;
                 run(&rt, "bad", "gauge 0\n10 1024 4\n", line)?.as_str(),
+                wanted
+            );
+        }
+        let wanted = "error: standard input, line 2: no line begins with this word: `wroks`";
+        for line in ["play -", "sums -", "strike -"] {
+            assert_eq!(rt;
+                run(&rt, "bad", "happens\nwroks 0 1\n", line)?.as_str(),
                 wanted
             );
         }
@@ -227,8 +281,20 @@ untold: hour 2 place 3: 5
         assert!(rt;
             printed
                 .as_str()
-                .ends_with("where a river is not played right.\n")
+                .ends_with("1 where a river is not played right, and 0 otherwise.\n")
         );
+        Ok(())
+    }
+
+    // It is no part of the command behind which it stands, and stands nowhere else.
+    #[test]
+    fn progress(rt: HostRuntime) -> Result<(), Fail> {
+        let printed = run(&rt, "progress", ONE_ROW, "sums FILE --progress")?;
+        assert_eq!(rt; printed.as_str(), "hour 0 place 1: 4\n");
+        let wanted =
+            "error: `--stats`: there is a word too many; `player --help` says how it is used";
+        let printed = run(&rt, "progress", ONE_ROW, "play FILE --progress --stats")?;
+        assert_eq!(rt; printed.as_str(), wanted);
         Ok(())
     }
 
@@ -236,6 +302,9 @@ untold: hour 2 place 3: 5
     fn words_that_are_no_command(rt: HostRuntime) -> Result<(), Fail> {
         let wanted = "error: the seed is missing; `player --help` says how it is used";
         assert_eq!(rt; run(&rt, "words", "", "random")?.as_str(), wanted);
+        let wanted =
+            "error: `--fast`: there is no such option; `player --help` says how it is used";
+        assert_eq!(rt; run(&rt, "words", "", "play FILE --fast")?.as_str(), wanted);
         Ok(())
     }
 }

@@ -1,5 +1,5 @@
 -- What the words behind `station` ask for. Assumes nothing: these are definitions.
-use Rattle.std.specs.Prelude.{◌≡◌, ℕ, cond, List, [], ◌∷◌, Some, None, Ok, Err, codes, Option, Result, eqb, nat_lt, String, string_bytes}
+use Rattle.std.specs.Prelude.{◌≡◌, ℕ, Bool, cond, ◌||◌, List, [], ◌∷◌, Some, None, Ok, Err, codes, Option, Result, eqb, length, nat_lt, String, string_bytes}
 use Rattle.std.specs.Global.{Global}
 use Rattle.std.specs.List.{starts_with}
 use Rattle.std.specs.Str.{bytes_eq}
@@ -19,11 +19,12 @@ name_of Drawers = codes "--drawers"
 name_of Gauge = codes "--gauge"
 name_of Wall = codes "--wall"
 
-abbrev pub named : Bytes → Result Name UsageError
-named w =
+-- the option of a name, behind which so many words stand
+abbrev pub named : Bytes → ℕ → Result Name UsageError
+named w behind =
     cond (bytes_eq w (codes "--drawers")) (Ok Drawers)
     (cond (bytes_eq w (codes "--gauge")) (Ok Gauge)
-    (cond (bytes_eq w (codes "--wall")) (Ok Wall) (Err UnknownOption)))
+    (cond (bytes_eq w (codes "--wall")) (Ok Wall) (Err (UnknownOption behind))))
 
 -- what was said so far, names of files as bytes
 pub record Given : Type 0 where
@@ -82,14 +83,17 @@ abbrev pub on : {A : Type 0} → Result A UsageError → (A → Result Asked Usa
 on (Ok x) next = next x
 on (Err e) next = Err e
 
--- word after word, a value behind its option's name; the first that is wrong ends it, and so does `--help`
+abbrev pub asks_help : Bytes → Bool
+asks_help w = bytes_eq w (codes "--help") || bytes_eq w (codes "-h")
+
+-- word after word, a value behind its option's name; the first that is wrong ends it, and so does `--help` or `-h`
 unfoldable pub asked_from : List Bytes → Option Name → Given → Result Asked UsageError
 asked_from [] (Some n) g = Err (MissingValue n)
 asked_from [] None g = finished g
 asked_from (w ∷ ws) (Some n) g = on (with_value g n w) (asked_from ws None)
 asked_from (w ∷ ws) None g =
-    cond (bytes_eq w (codes "--help")) (Ok help)
-    (cond (starts_with eqb w (codes "-")) (on (named w) (λ n. asked_from ws (Some n) g))
+    cond (asks_help w) (Ok help)
+    (cond (starts_with eqb w (codes "-")) (on (named w (length ws)) (λ n. asked_from ws (Some n) g))
     (on (with_machine g w) (asked_from ws None)))
 
 abbrev pub asked : List Bytes → Result Asked UsageError

@@ -5,6 +5,7 @@ mod disk;
 mod files;
 mod options;
 mod own_gauge;
+mod plain;
 mod program;
 mod station;
 mod wall;

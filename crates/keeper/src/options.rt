@@ -1,10 +1,9 @@
 // The words behind `station`.
 ghost use Rattle.std.specs.Prelude.{◌≡◌, Some, map, string_bytes};
-ghost use Rattle.keeper.specs.Words.{Answers, Finishes, Puts, Takes, as_given, asked, finished as ended, name_of, named, with_machine, with_value};
+ghost use Rattle.keeper.specs.Words.{Answers, Finishes, Puts, Takes, as_given, asked, asks_help, finished as ended, name_of, named, with_machine, with_value};
 
 use machine::MACHINES;
 use std::fmt;
-use std::str::FromStr;
 use text::decimal;
 use thiserror::Error;
 
@@ -18,8 +17,9 @@ pub enum Name {
 
 #[derive(Clone, Copy, PartialEq, Eq, Debug, Error)]
 pub enum UsageError {
+    // How many words stand behind its own.
     #[error("there is no such option")]
-    UnknownOption,
+    UnknownOption(usize),
     #[error("{0} wants a value")]
     MissingValue(Name),
     #[error("{0} is missing")]
@@ -46,19 +46,23 @@ impl fmt::Display for Name {
     }
 }
 
-impl FromStr for Name {
-    type Err = UsageError;
-
-    ghost from_str_gives = { λ word r. r ≡ named word };
-
-    fn from_str(word: &str) -> Result<Name, UsageError> {
-        match word {
-            "--drawers" => Ok(Name::Drawers),
-            "--gauge" => Ok(Name::Gauge),
-            "--wall" => Ok(Name::Wall),
-            _ => Err(UsageError::UnknownOption),
-        }
+// The option of this name, behind which so many words stand.
+fn option(word: &str, behind: usize) -> Result<Name, UsageError>
+    ensures { result ≡ named word.now behind }
+{
+    match word {
+        "--drawers" => Ok(Name::Drawers),
+        "--gauge" => Ok(Name::Gauge),
+        "--wall" => Ok(Name::Wall),
+        _ => Err(UsageError::UnknownOption(behind)),
     }
+}
+
+// Whether a word asks how the program is used.
+fn is_help(word: &str) -> bool
+    ensures { result ≡ asks_help word.now }
+{
+    word == "--help" || word == "-h"
 }
 
 // Which machine, and where its files are.
@@ -150,11 +154,11 @@ impl Request {
         let mut words = words.into_iter();
         while let Some(word) = words.next() {
             let word = word.as_str();
-            if word == "--help" {
+            if is_help(word) {
                 return Ok(Request::Help);
             }
             if word.starts_with("-") {
-                let name = word.parse()?;
+                let name = option(word, words.len())?;
                 let value = words.next().ok_or(UsageError::MissingValue(name))?;
                 said.set(name, value)?;
             } else {

@@ -1,6 +1,8 @@
 // The program `station`: what it is asked, and a machine that works and hears till its wires end.
-use crate::options::{Options, Request};
+use crate::options::{Options, Request, UsageError};
 use crate::station::Station;
+use anyhow::anyhow;
+use status::Failure;
 use std::io::BufRead;
 
 const USAGE: &str = "usage: station MACHINE --drawers DIR --gauge FILE --wall FILE
@@ -10,20 +12,33 @@ One rain-gauge machine, by its number (0 to 7), on real files.
   --drawers DIR   the folder that holds its 256 drawers and what it has released
   --gauge FILE    a river file: the readings of the machine's own gauge are read
   --wall FILE     rows are appended to it, `hour H place P: SUM`
-  --help          this text
+  --help, -h      this text
+  --version       the program and the kit that it is built with
 
 Standard input is what comes over the wires, a line each: `from I HEX`, a letter
 from machine I, or `poke`. Standard output is what goes out: `to J HEX`.
 It works till it rests, then after each line, and ends with its input.
 It may be killed at any moment and started again on the same files.";
 
+// An option that there is not is said with its word.
+fn refused(words: &[String], error: UsageError) -> Failure {
+    let UsageError::UnknownOption(behind) = error else {
+        return Failure::refused(error);
+    };
+    match words.iter().rev().nth(behind) {
+        Some(word) => Failure::Refused(anyhow!("`{word}`: {error}")),
+        None => Failure::refused(error),
+    }
+}
+
 // Does what these words ask for; the lines are those of the wires.
 pub fn run<B: BufRead + Drop>(
     rt: &HostRuntime,
     words: Vec<String>,
     wires: B,
-) -> anyhow::Result<()> {
-    match Request::read(words)? {
+) -> Result<(), Failure> {
+    let given = words.clone()?;
+    match Request::read(words).map_err(|error| refused(given.as_slice(), error))? {
         Request::Help => {
             println!(rt; "{USAGE}")?;
             Ok(())
@@ -32,11 +47,12 @@ pub fn run<B: BufRead + Drop>(
     }
 }
 
-fn serve<B: BufRead + Drop>(rt: &HostRuntime, options: &Options, wires: B) -> anyhow::Result<()> {
+fn serve<B: BufRead + Drop>(rt: &HostRuntime, options: &Options, wires: B) -> Result<(), Failure> {
     let mut station = Station::open(rt, options)?;
     station.work(rt, u64::MAX)?;
-    for line in wires.lines(rt.alloc()) {
-        station.hear(rt, line?.as_str())?;
+    for line in wires.split(rt.alloc(), b'\n') {
+        let line = line.map_err(Failure::refused)?;
+        station.hear(rt, line.as_slice())?;
     }
     Ok(())
 }

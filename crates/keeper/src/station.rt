@@ -1,10 +1,14 @@
 // A machine at work: each act is done on the files before the next step.
 use crate::disk::Disk;
+use crate::files::is_own;
 use crate::options::Options;
 use crate::own_gauge::readings;
-use crate::wall::Wall;
+use crate::plain::{FileId, find_plain};
+use crate::wall::{Wall, folder_of};
 use anyhow::{anyhow, ensure};
-use hut::{Desk, Effect, Hut};
+use hut::{Desk, Effect, Hut, Pending};
+use status::Failure;
+use std::path::Path;
 use sums::Reading;
 
 #[derive(Drop)]
@@ -19,13 +23,53 @@ pub struct Station {
     lines: u64,
 }
 
+// What a line of the wires says.
+fn event(rt: &HostRuntime, line: &[u8]) -> anyhow::Result<Option<Pending>> {
+    ensure!(str::from_utf8(line).is_ok(), "it is no UTF-8");
+    Ok(wire::hear(rt.alloc(), line)?)
+}
+
+// The gauge's file and the wall are plain files, two of them, and none of the station's own.
+fn keep_apart(rt: &HostRuntime, disk: &Disk, options: &Options) -> anyhow::Result<()> {
+    let gauge = options.gauge.as_str();
+    let wall = options.wall.as_str();
+    let folder = options.drawers.as_str();
+    let gauge_id = find_plain(rt, gauge)?.map(|file| file.id);
+    let wall_id = find_plain(rt, wall)?.map(|file| file.id);
+    ensure!(
+        wall_id.is_none() || wall_id != gauge_id,
+        "the wall {wall} and the gauge's file {gauge} are one file"
+    );
+    for (path, id) in [(gauge, gauge_id), (wall, wall_id)] {
+        ensure!(
+            !is_taken(rt, disk, path, id)?,
+            "{path} is one of the station's own files in {folder}"
+        );
+    }
+    Ok(())
+}
+
+// Whether the station keeps, or would keep, something of its own in this file.
+fn is_taken(rt: &HostRuntime, disk: &Disk, path: &str, id: Option<FileId>) -> anyhow::Result<bool> {
+    let name = Path::new(path).file_name();
+    let is_named = name.is_some_and(|name| is_own(name.as_bytes()));
+    if is_named && disk.is_at(rt, folder_of(path)) {
+        return Ok(true);
+    }
+    match id {
+        Some(id) => disk.has(rt, id),
+        None => Ok(false),
+    }
+}
+
 impl Station {
-    // The machine as it wakes. All files are read and checked before anything is written.
-    pub fn open(rt: &HostRuntime, options: &Options) -> anyhow::Result<Station> {
+    // The machine as it wakes. All files are read and checked before anything but the folder's lock is written.
+    pub fn open(rt: &HostRuntime, options: &Options) -> Result<Station, Failure> {
         let machine = options.machine;
+        let disk = Disk::open(rt, options.drawers.as_str()).map_err(Failure::refused)?;
+        keep_apart(rt, &disk, options).map_err(Failure::refused)?;
         let row = readings(rt, options.gauge.as_str(), machine)?;
-        let disk = Disk::open(rt, options.drawers.as_str())?;
-        let hut = disk.boot(rt, machine, row.len())?;
+        let hut = disk.boot(rt, machine, row.len()).map_err(Failure::refused)?;
         let desk = Desk::new(rt.alloc())?;
         let wall = Wall::open(rt, options.wall.as_str())?;
         Ok(Station {
@@ -40,7 +84,7 @@ impl Station {
     }
 
     // So many turns at most, till the machine rests; whether it does. With drawers that belong together it rests only where all is released.
-    pub fn work(&mut self, rt: &HostRuntime, turns: u64) -> anyhow::Result<bool> {
+    pub fn work(&mut self, rt: &HostRuntime, turns: u64) -> Result<bool, Failure> {
         let heap = rt.alloc();
         for _ in 0..turns {
             let row = self.row.as_slice();
@@ -51,36 +95,37 @@ impl Station {
             self.carry_out(rt, effect)?;
         }
         let rests = self.hut.rests();
-        ensure!(
-            !rests || self.hut.gone >= self.row.len() as u64,
-            "the machine rests, and its row is not released: its drawers do not belong together"
-        );
+        if rests && self.hut.gone < self.row.len() as u64 {
+            return Err(Failure::Wrong(anyhow!(
+                "the machine rests, and its row is not released: its drawers do not belong together"
+            )));
+        }
         Ok(rests)
     }
 
     // Makes an act last.
-    fn carry_out(&mut self, rt: &HostRuntime, effect: Effect) -> anyhow::Result<()> {
-        match effect {
+    fn carry_out(&mut self, rt: &HostRuntime, effect: Effect) -> Result<(), Failure> {
+        let done = match effect {
             Effect::Kept(drawer) => self.disk.keep(rt, drawer, self.hut.drawer(drawer)),
             Effect::Released(place) => self.disk.release(rt, place),
             Effect::Told(row) => self.wall.tell(rt, row),
             Effect::Sent(reader, text) => {
                 let line = wire::send(rt.alloc(), reader, text.text.as_slice())?;
-                println!(rt; "{line}")?;
-                Ok(())
+                return Ok(println!(rt; "{line}")?);
             }
             Effect::Fault => Err(anyhow!("the machine did what there is not")),
             _ => Ok(()),
-        }
+        };
+        done.map_err(Failure::wrong)
     }
 
     // Tells the machine what a line of its wires says, once it rests, and lets it work.
-    pub fn hear(&mut self, rt: &HostRuntime, line: &str) -> anyhow::Result<()> {
+    pub fn hear(&mut self, rt: &HostRuntime, line: &[u8]) -> Result<(), Failure> {
         self.lines = self.lines.saturating_add(1);
         let number = self.lines;
-        let heard = wire::hear(rt.alloc(), line.as_bytes()).map_err(|error| anyhow!(
+        let heard = event(rt, line).map_err(|error| Failure::Refused(anyhow!(
             "wires, line {number}: {error}"
-        ))?;
+        )))?;
         if let Some(event) = heard {
             self.work(rt, u64::MAX)?;
             self.hut.hear(event);

@@ -5,6 +5,7 @@
 mod tests {
     use keeper::{Options, Request, Station};
     use std::fs;
+    use std::os::unix::fs::symlink;
     use std::test::Fail;
 
     const RIVER: &str = "gauge 0\n10 1 4\n50 2 0\n130 1 7\n170 1 5\n390 1023 4294967295\n";
@@ -32,6 +33,18 @@ mod tests {
     fn turns(rt: &HostRuntime, options: &Options, turns: u64) -> Result<bool, Fail> {
         let mut station = Station::open(rt, options)?;
         Ok(station.work(rt, turns)?)
+    }
+
+    // A file as the station writes it, below its checksum.
+    fn put(rt: &HostRuntime, path: &str, bytes: &[u8]) -> Result<(), Fail> {
+        let file = seal::seal(rt.alloc(), bytes)?;
+        Ok(fs::write(rt, path, file.as_slice())?)
+    }
+
+    // Whether a file of the station holds just this.
+    fn holds(rt: &HostRuntime, path: &str, bytes: &[u8]) -> Result<bool, Fail> {
+        let file = fs::read(rt, path)?;
+        Ok(seal::unseal(file.as_slice())? == bytes)
     }
 
     // How many rows of the wall are told again; none is wrong, and none of the river's sums is missing.
@@ -132,7 +145,7 @@ mod tests {
                 .starts_with("root-first/drawers/drawer-0 cannot be written")
         );
         assert!(rt; fs::exists(&rt, "root-first/drawers/drawer-2")?);
-        assert!(rt; fs::read_to_string(&rt, "root-first/drawers/released")?.as_str() == "0\n");
+        assert!(rt; holds(&rt, "root-first/drawers/released", b"0\n")?);
         Ok(())
     }
 
@@ -180,8 +193,8 @@ hour 0 place 7: 8208
     fn a_page_that_was_cut(rt: HostRuntime) -> Result<(), Fail> {
         let options = long_options(&rt, "cut")?;
         assert!(rt; !turns(&rt, &options, 4112)?);
-        assert!(rt; fs::read_to_string(&rt, "cut/drawers/released")?.as_str() == "4096\n");
-        fs::write(&rt, "cut/drawers/drawer-10", "cut")?;
+        assert!(rt; holds(&rt, "cut/drawers/released", b"4096\n")?);
+        put(&rt, "cut/drawers/drawer-10", b"cut")?;
         let mut station = Station::open(&rt, &options)?;
         let Err(error) = station.work(&rt, 10_000) else {
             return Err(Fail::new("it works on a page that was cut"));
@@ -218,39 +231,116 @@ hour 0 place 7: 8208
     fn files_that_are_no_good(rt: HostRuntime) -> Result<(), Fail> {
         let heap = rt.alloc();
         let mut options = options(&rt, "bad")?;
-        fs::write(&rt, "bad/drawers/released", "6\n")?;
+        put(&rt, "bad/drawers/released", b"6\n")?;
         assert!(rt;
             refusal(&rt, &options)?.as_str()
                 == "6 readings are released, and the gauge's file has only 5"
         );
-        fs::write(&rt, "bad/drawers/released", "two\n")?;
-        assert!(rt;
-            refusal(&rt, &options)?.as_str() == "bad/drawers/released does not hold one number"
-        );
-        fs::write(&rt, "bad/drawers/released", "2 3\n")?;
-        assert!(rt;
-            refusal(&rt, &options)?.as_str() == "bad/drawers/released does not hold one number"
-        );
+        for text in ["two\n", "2 3\n", "2\n3\n", ""] {
+            put(&rt, "bad/drawers/released", text.as_bytes())?;
+            assert!(rt;
+                refusal(&rt, &options)?.as_str() == "bad/drawers/released does not hold one number"
+            );
+        }
         fs::remove_file(&rt, "bad/drawers/released")?;
         let long = vec![in heap; 0u8; 4097]?;
-        fs::write(&rt, "bad/drawers/drawer-255", long.as_slice())?;
+        put(&rt, "bad/drawers/drawer-255", long.as_slice())?;
         assert!(rt;
             refusal(&rt, &options)?.as_str()
                 == "bad/drawers/drawer-255 is no drawer: it has more than 4096 bytes"
         );
         fs::remove_file(&rt, "bad/drawers/drawer-255")?;
         fs::create_dir(&rt, "bad/drawers/drawer-0")?;
-        assert!(rt;
-            refusal(&rt, &options)?
-                .as_str()
-                .starts_with("bad/drawers/drawer-0 cannot be read")
-        );
+        assert!(rt; refusal(&rt, &options)?.as_str() == "bad/drawers/drawer-0 is no plain file");
         options.drawers = format!(in heap; "bad/none")?;
         assert!(rt;
             refusal(&rt, &options)?.as_str() == "there is no folder bad/none for the drawers"
         );
         // nothing was written while it was refused
         assert!(rt; !fs::exists(&rt, "bad/wall")?);
+        Ok(())
+    }
+
+    // What a station says of a file in which one digit is another.
+    fn damaged(rt: &HostRuntime, options: &Options, path: &str, at: usize) -> Result<String, Fail> {
+        let whole = fs::read(rt, path)?;
+        let mut bytes = Vec::from_slice(rt.alloc(), whole.as_slice())?;
+        let Some(byte) = bytes.get_mut(at) else {
+            return Err(Fail::new("the file is shorter"));
+        };
+        *byte ^= 1;
+        fs::write(rt, path, bytes.as_slice())?;
+        let said = refusal(rt, options)?;
+        fs::write(rt, path, whole.as_slice())?;
+        Ok(said)
+    }
+
+    // A root record with one wrong number is of the right length: without its checksum a machine would go by it.
+    #[test]
+    fn files_that_are_damaged(rt: HostRuntime) -> Result<(), Fail> {
+        let options = options(&rt, "damaged")?;
+        assert!(rt; turns(&rt, &options, 1000)?);
+        let text = fs::read_to_string(&rt, "damaged/wall")?;
+        for at in [0, 63, 65, 66, 72, 80] {
+            assert!(rt;
+                damaged(&rt, &options, "damaged/drawers/drawer-0", at)?.as_str()
+                    == "damaged/drawers/drawer-0 is damaged: its checksum does not fit"
+            );
+        }
+        for at in [0, 65, 66] {
+            assert!(rt;
+                damaged(&rt, &options, "damaged/drawers/released", at)?.as_str()
+                    == "damaged/drawers/released is damaged: its checksum does not fit"
+            );
+        }
+        assert!(rt; fs::read_to_string(&rt, "damaged/wall")?.as_str() == text.as_str());
+        assert!(rt; turns(&rt, &options, 1000)?);
+        Ok(())
+    }
+
+    // As an older station wrote them, and as a disk leaves a file of which nothing was written.
+    #[test]
+    fn files_without_a_checksum(rt: HostRuntime) -> Result<(), Fail> {
+        let options = options(&rt, "old")?;
+        for text in ["0\n", ""] {
+            fs::write(&rt, "old/drawers/released", text)?;
+            assert!(rt;
+                refusal(&rt, &options)?.as_str()
+                    == "old/drawers/released has no checksum; if it is an older station's, use an empty folder"
+            );
+        }
+        fs::remove_file(&rt, "old/drawers/released")?;
+        fs::write(&rt, "old/drawers/drawer-7", "a page")?;
+        assert!(rt;
+            refusal(&rt, &options)?.as_str()
+                == "old/drawers/drawer-7 has no checksum; if it is an older station's, use an empty folder"
+        );
+        Ok(())
+    }
+
+    // What is left beside a file is never read, and is written over.
+    #[test]
+    fn writes_that_were_cut_short(rt: HostRuntime) -> Result<(), Fail> {
+        let options = options(&rt, "beside")?;
+        assert!(rt; !turns(&rt, &options, 12)?);
+        fs::write(&rt, "beside/drawers/drawer-0.new", "garbage")?;
+        fs::write(&rt, "beside/drawers/released.new", "7\n")?;
+        assert!(rt; turns(&rt, &options, 1000)?);
+        assert!(rt; repeated(&rt, &options)? <= 1);
+        assert!(rt; holds(&rt, "beside/drawers/released", b"5\n")?);
+        Ok(())
+    }
+
+    #[test]
+    fn two_stations_on_one_folder(rt: HostRuntime) -> Result<(), Fail> {
+        let options = options(&rt, "two")?;
+        let mut first = Station::open(&rt, &options)?;
+        assert!(rt; !first.work(&rt, 3)?);
+        assert!(rt; refusal(&rt, &options)?.as_str() == "another station runs on two/drawers");
+        assert!(rt; first.work(&rt, 1000)?);
+        assert_eq!(rt; repeated(&rt, &options)?, 0);
+        drop(first);
+        assert!(rt; turns(&rt, &options, 1000)?);
         Ok(())
     }
 
@@ -271,13 +361,131 @@ hour 0 place 7: 8208
                 .as_str()
                 .starts_with("the gauge's file worse/none cannot be read")
         );
-        options.gauge = format!(in heap; "worse/gauge")?;
-        fs::write(&rt, "worse/gauge", RIVER)?;
-        options.wall = format!(in heap; "worse/drawers")?;
+        for path in ["/dev/zero", "/dev/null", "worse/drawers"] {
+            let said = format!(in heap; "{path} is no plain file")?;
+            options.gauge = format!(in heap; "{path}")?;
+            assert!(rt; refusal(&rt, &options)?.as_str() == said.as_str());
+            options.gauge = format!(in heap; "worse/gauge")?;
+            fs::write(&rt, "worse/gauge", RIVER)?;
+            options.wall = format!(in heap; "{path}")?;
+            assert!(rt; refusal(&rt, &options)?.as_str() == said.as_str());
+        }
+        symlink(&rt, "nowhere", "worse/link")?;
+        options.wall = format!(in heap; "worse/link")?;
+        assert!(rt; refusal(&rt, &options)?.as_str() == "worse/link is a link that leads nowhere");
+        assert!(rt; !fs::exists(&rt, "worse/nowhere")?);
+        Ok(())
+    }
+
+    // By its name, by a hard link and by a symbolic one.
+    #[test]
+    fn two_names_of_one_file(rt: HostRuntime) -> Result<(), Fail> {
+        let heap = rt.alloc();
+        let mut options = options(&rt, "names")?;
+        assert!(rt; turns(&rt, &options, 1000)?);
+        fs::hard_link(&rt, "names/gauge", "names/hard")?;
+        symlink(&rt, "gauge", "names/soft")?;
+        for path in [
+            "names/gauge",
+            "names/drawers/../gauge",
+            "names/hard",
+            "names/soft",
+        ] {
+            let said = format!(in heap;
+                "the wall {path} and the gauge's file names/gauge are one file"
+            )?;
+            options.wall = format!(in heap; "{path}")?;
+            assert!(rt; refusal(&rt, &options)?.as_str() == said.as_str());
+        }
+        fs::hard_link(&rt, "names/drawers/drawer-2", "names/drawer")?;
+        for path in [
+            "names/drawers/drawer-2",
+            "names/drawers/drawer-9",
+            "names/drawers/drawer-9.new",
+            "names/drawers/released",
+            "names/drawers/lock",
+            "names/drawer",
+        ] {
+            let said = format!(in heap;
+                "{path} is one of the station's own files in names/drawers"
+            )?;
+            options.wall = format!(in heap; "{path}")?;
+            assert!(rt; refusal(&rt, &options)?.as_str() == said.as_str());
+        }
+        assert!(rt; fs::read_to_string(&rt, "names/gauge")?.as_str() == RIVER);
+        Ok(())
+    }
+
+    // A wall that is refused stays as it is.
+    fn no_wall(rt: &HostRuntime, options: &Options, text: &str) -> Result<String, Fail> {
+        fs::write(rt, options.wall.as_str(), text)?;
+        let said = refusal(rt, options)?;
+        if fs::read_to_string(rt, options.wall.as_str())?.as_str() != text {
+            return Err(Fail::new("a wall that is refused is changed"));
+        }
+        Ok(said)
+    }
+
+    #[test]
+    fn walls_that_are_none(rt: HostRuntime) -> Result<(), Fail> {
+        let options = options(&rt, "garbage")?;
+        for (text, said) in [
+            (
+                RIVER,
+                "garbage/wall is no wall: line 1: a row is `hour H place P: S`, and here are too few words",
+            ),
+            (
+                "hour 0 place 1: 4\n\n",
+                "garbage/wall is no wall: line 2: this line is blank",
+            ),
+            (
+                "hour 0 place 1: 4\nhour 0 plaice",
+                "garbage/wall is no wall: its last line has no end, and no row begins so",
+            ),
+            (
+                "garbage",
+                "garbage/wall is no wall: its last line has no end, and no row begins so",
+            ),
+        ] {
+            assert!(rt; no_wall(&rt, &options, text)?.as_str() == said);
+        }
+        Ok(())
+    }
+
+    // Whatever a kill leaves of a row is cut off.
+    #[test]
+    fn rows_cut_at_every_byte(rt: HostRuntime) -> Result<(), Fail> {
+        let row = "hour 18446744073709551615 place 1023: 18446744073709551615";
+        for at in 0..row.len() {
+            let Some(front) = row.get(..at) else {
+                return Err(Fail::new("the row is shorter"));
+            };
+            let options = options(&rt, "cut-row")?;
+            fs::write(&rt, options.wall.as_str(), front)?;
+            assert!(rt; turns(&rt, &options, 1000)?);
+            assert_eq!(rt; repeated(&rt, &options)?, 0);
+        }
+        Ok(())
+    }
+
+    // Of a long wall the last 65,536 bytes are read: what stands before them is not.
+    #[test]
+    fn a_long_wall(rt: HostRuntime) -> Result<(), Fail> {
+        let options = options(&rt, "tail")?;
+        let mut wall = String::new(rt.alloc());
+        for hour in 4..6000 {
+            writeln!(wall, "hour {hour} place 2: 3")?;
+        }
+        let long = wall.len();
+        write!(wall, "hour 6000 pl")?;
+        fs::write(&rt, options.wall.as_str(), wall.as_str())?;
+        assert!(rt; !turns(&rt, &options, 0)?);
+        assert_eq!(rt; fs::read(&rt, options.wall.as_str())?.len(), long);
+        writeln!(wall, "ace")?;
         assert!(rt;
-            refusal(&rt, &options)?
+            no_wall(&rt, &options, wall.as_str())?
                 .as_str()
-                .starts_with("the wall worse/drawers cannot be opened")
+                .starts_with("tail/wall is no wall: line ")
         );
         Ok(())
     }
@@ -285,7 +493,7 @@ hour 0 place 7: 8208
     // What a station says of the first line of its wires; nothing where it hears it.
     fn heard(rt: &HostRuntime, options: &Options, line: &str) -> Result<String, Fail> {
         let mut station = Station::open(rt, options)?;
-        match station.hear(rt, line) {
+        match station.hear(rt, line.as_bytes()) {
             Ok(()) => Ok(String::new(rt.alloc())),
             Err(error) => Ok(format!(in rt.alloc(); "{error}")?),
         }
@@ -357,13 +565,18 @@ hour 0 place 7: 8208
     fn the_number_of_a_line(rt: HostRuntime) -> Result<(), Fail> {
         let options = options(&rt, "number")?;
         let mut station = Station::open(&rt, &options)?;
-        station.hear(&rt, "poke")?;
-        station.hear(&rt, "")?;
-        let Err(error) = station.hear(&rt, "peek") else {
+        station.hear(&rt, b"poke")?;
+        station.hear(&rt, b"")?;
+        let Err(error) = station.hear(&rt, b"peek") else {
             return Err(Fail::new("this says nothing"));
         };
         let said = format!(in rt.alloc(); "{error}")?;
         assert!(rt; said.as_str() == "wires, line 3: a line is `poke` or begins with `from`");
+        let Err(error) = station.hear(&rt, b"poke # \xff") else {
+            return Err(Fail::new("this is no text"));
+        };
+        let said = format!(in rt.alloc(); "{error}")?;
+        assert!(rt; said.as_str() == "wires, line 4: it is no UTF-8");
         Ok(())
     }
 
@@ -392,6 +605,7 @@ hour 0 place 7: 8208
     fn words(rt: HostRuntime) -> Result<(), Fail> {
         assert!(rt; usage(&rt, "7 --drawers d --gauge g --wall w")?.as_str() == "7 d g w");
         assert!(rt; usage(&rt, "--help")?.as_str() == "help");
+        assert!(rt; usage(&rt, "0 -h --walls")?.as_str() == "help");
         assert!(rt;
             usage(&rt, "8 --drawers d --gauge g --wall w")?.as_str()
                 == "a machine's number is 0 to 7"

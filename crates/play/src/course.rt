@@ -44,6 +44,15 @@ fn add_round(items: &mut Vec<Item>, acts: u64) -> Result<(), AllocError>
     Ok(())
 }
 
+// One round of calm, written out.
+pub fn round(heap: Global, acts: u64) -> Result<Vec<Item>, AllocError>
+    ensures { IfOk result (λ v. unrolled v.items ≡ a_round acts) }
+{
+    let mut items = Vec::new(heap);
+    add_round(&mut items, acts)?;
+    Ok(items)
+}
+
 fn add_rounds(items: &mut Vec<Item>, rounds: u64, acts: u64) -> Result<(), AllocError>
     ensures { OnOk result (Grown items.old.items (all_rounds rounds acts) items.new.items) }
 {

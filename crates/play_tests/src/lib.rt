@@ -215,22 +215,22 @@ mod tests {
 
     const BAD: [(&str, ArgsError); 17] = [
         ("play", ArgsError::NoFile),
-        ("play a --fast", ArgsError::UnknownOption),
-        ("play a --stats b", ArgsError::TooManyWords),
-        ("a b", ArgsError::UnknownOption),
-        ("a --stats b", ArgsError::TooManyWords),
-        ("--stats", ArgsError::UnknownOption),
+        ("play a --fast", ArgsError::UnknownOption(2)),
+        ("play a --stats b", ArgsError::TooManyWords(3)),
+        ("a b", ArgsError::UnknownOption(1)),
+        ("a --stats b", ArgsError::TooManyWords(2)),
+        ("--stats", ArgsError::UnknownOption(0)),
         ("random", ArgsError::NoSeed),
         ("random 1", ArgsError::NoRivers),
         ("random x 1", ArgsError::SeedNoNumber),
         ("random +1 2", ArgsError::SeedNoNumber),
         ("random 1 -1", ArgsError::RiversNoNumber),
-        ("random 1 2 3", ArgsError::TooManyWords),
+        ("random 1 2 3", ArgsError::TooManyWords(3)),
         ("strike", ArgsError::NoFile),
         ("strike a 3", ArgsError::NotOneOrTwo),
-        ("strike a 1 1", ArgsError::TooManyWords),
+        ("strike a 1 1", ArgsError::TooManyWords(3)),
         ("sums", ArgsError::NoFile),
-        ("sums a b", ArgsError::TooManyWords),
+        ("sums a b", ArgsError::TooManyWords(2)),
     ];
 
     #[test]

@@ -1,15 +1,28 @@
 // Plays rivers: one from a file, many made at random, or one struck after every act.
 #![tactic(auto)]
 
-use status::status;
+use status::{Failure, is_version_asked, print_version, status};
 use std::process::ExitCode;
+use std::io::{BufWriter, Write};
 use std::{env, io};
 
+const NAME: &str = "player";
+
 fn main(rt: HostRuntime) -> ExitCode {
-    status(&rt, "player", run(&rt))
+    status(&rt, NAME, run(&rt))
 }
 
-fn run(rt: &HostRuntime) -> anyhow::Result<()> {
-    let words: Vec<String> = env::args(rt)?.skip(1).collect(rt.alloc())?;
-    commands::run(rt, &mut rt.stdin(), &mut io::writer(rt), words.as_slice())
+fn run(rt: &HostRuntime) -> Result<(), Failure> {
+    let words: Vec<String> = env::args(rt)
+        .map_err(Failure::refused)?
+        .skip(1)
+        .collect(rt.alloc())?;
+    // Where an error ends the program, what was printed is written out as `out` is let go of, before the error is told.
+    let mut out = BufWriter::new(rt.alloc(), io::writer(rt)).map_err(Failure::wrong)?;
+    if is_version_asked(words.as_slice()) {
+        print_version(&mut out, NAME)?;
+    } else {
+        commands::run(rt, &mut rt.stdin(), &mut out, words.as_slice())?;
+    }
+    Ok(out.flush()?)
 }

@@ -1,12 +1,15 @@
 // What the player is asked to do, by the words of its command line.
 #![tactic(auto)]
 
-ghost use Rattle.std.specs.Prelude.{◌≡◌, map, string_bytes};
-ghost use Rattle.player_args.specs.Asked.{Answers, asked, play_of, random_of, strike_of, strokes_of, sums_of};
+ghost use Rattle.std.specs.Prelude.{◌≡◌, ◌≤◌, map, string_bytes};
+ghost use Rattle.player_args.specs.Asked.{Answers, asked, play_of, random_of, strike_of, strokes_of, sums_of, word_of};
 ghost use Rattle.player_args.specs.Back.{CommandsBack};
 ghost use Rattle.player_args.specs.Worked.{WorkedCommands};
 ghost use Rattle.player_args.specs.declared.ArgsError.TheVariants.{Memory};
 
+mod progress;
+
+pub use progress::progress_of;
 use std::alloc::{AllocError, Global};
 use std::error::Error;
 use std::fmt;
@@ -20,9 +23,12 @@ pub const USAGE: &str = "usage: player COMMAND
   strike FILE [1|2]        play a river struck after every act, once or twice in a row
   sums FILE                play nothing: the rows that are to be told, added up at once
   FILE [--stats]           the same behind play; with no word at all, as play -
-  --help                   this text
+  .. --progress            any of these, and standard error says how far it is, terminal or not
+  --help, -h               this text
+  --version                the program and the kit that it is built with
 
-FILE may be - for standard input. The status is 1 where a river is not played right.";
+FILE may be - for standard input. The status is 2 where the words or the river are refused,
+1 where a river is not played right, and 0 otherwise.";
 
 // How often a machine is struck in a row.
 #[derive(Clone, Copy, PartialEq, Eq, Debug)]
@@ -47,9 +53,11 @@ pub enum ArgsError {
     NoRivers,
     SeedNoNumber,
     RiversNoNumber,
-    UnknownOption,
+    // The word, counted from 0.
+    UnknownOption(usize),
     NotOneOrTwo,
-    TooManyWords,
+    // The first word too many, counted from 0.
+    TooManyWords(usize),
     Memory,
 }
 
@@ -60,11 +68,12 @@ impl fmt::Display for ArgsError {
             ArgsError::NoFile => "the file of the river is missing",
             ArgsError::NoSeed => "the seed is missing",
             ArgsError::NoRivers => "the number of rivers is missing",
-            ArgsError::SeedNoNumber => "the seed is not a number below 2^64",
-            ArgsError::RiversNoNumber => "the number of rivers is not a number below 2^64",
-            ArgsError::UnknownOption => "there is no such option",
+            ArgsError::SeedNoNumber => "the seed is to be a number: digits alone, below 2^64",
+            ArgsError::RiversNoNumber =>
+                "how many rivers is to be a number: digits alone, below 2^64",
+            ArgsError::UnknownOption(_) => "there is no such option",
             ArgsError::NotOneOrTwo => "a machine is struck 1 or 2 times in a row",
-            ArgsError::TooManyWords => "there is a word too many",
+            ArgsError::TooManyWords(_) => "there is a word too many",
             ArgsError::Memory => "there is not enough memory",
         };
         write!(f, "{text}; `player --help` says how it is used")
@@ -72,6 +81,20 @@ impl fmt::Display for ArgsError {
 }
 
 impl Error for ArgsError {}
+
+impl ArgsError {
+    // Which word is refused, counted from 0; none where a word is missing.
+    pub fn word(self) -> Option<usize>
+        ensures { result ≡ word_of self }
+    {
+        match self {
+            ArgsError::SeedNoNumber => Some(1),
+            ArgsError::RiversNoNumber | ArgsError::NotOneOrTwo => Some(2),
+            ArgsError::UnknownOption(at) | ArgsError::TooManyWords(at) => Some(at),
+            ArgsError::NoFile | ArgsError::NoSeed | ArgsError::NoRivers | ArgsError::Memory => None,
+        }
+    }
+}
 
 // By hand, as a clause names the error that `?` makes.
 impl From<AllocError> for ArgsError {
@@ -96,15 +119,17 @@ impl FromStr for Strokes {
     }
 }
 
-fn play_command(words: &[String]) -> Result<Command, ArgsError>
-    ensures { Answers (play_of (map string_bytes words.now)) result }
+// The words from the file's name on, of which the first is the word with this number.
+fn play_command(words: &[String], at: usize) -> Result<Command, ArgsError>
+    requires { at ≤ 1 }
+    ensures { Answers (play_of at (map string_bytes words.now)) result }
 {
     let (file, rest) = words.split_first().ok_or(ArgsError::NoFile)?;
     let stats = match rest {
         [] => false,
         [option] if option.as_str() == "--stats" => true,
-        [_] => return Err(ArgsError::UnknownOption),
-        _ => return Err(ArgsError::TooManyWords),
+        [_] => return Err(ArgsError::UnknownOption(at + 1)),
+        _ => return Err(ArgsError::TooManyWords(at + 2)),
     };
     let file = file.clone()?;
     Ok(Command::Play { file, stats })
@@ -117,7 +142,7 @@ fn random_command(words: &[String]) -> Result<Command, ArgsError>
         return Err(match words.len() {
             0 => ArgsError::NoSeed,
             1 => ArgsError::NoRivers,
-            _ => ArgsError::TooManyWords,
+            _ => ArgsError::TooManyWords(3),
         });
     };
     let seed = decimal(seed.as_bytes()).ok_or(ArgsError::SeedNoNumber)?;
@@ -132,7 +157,7 @@ fn strike_command(words: &[String]) -> Result<Command, ArgsError>
     let strokes = match rest {
         [] => Strokes::One,
         [count] => count.as_str().parse()?,
-        _ => return Err(ArgsError::TooManyWords),
+        _ => return Err(ArgsError::TooManyWords(3)),
     };
     let file = file.clone()?;
     Ok(Command::Strike { file, strokes })
@@ -146,7 +171,7 @@ fn sums_command(words: &[String]) -> Result<Command, ArgsError>
         [file] => Ok(Command::Sums {
             file: file.clone()?,
         }),
-        _ => Err(ArgsError::TooManyWords),
+        _ => Err(ArgsError::TooManyWords(2)),
     }
 }
 
@@ -161,13 +186,13 @@ pub fn command_of(heap: Global, words: &[String]) -> Result<Command, ArgsError>
         });
     };
     match name.as_str() {
-        "play" => play_command(rest),
+        "play" => play_command(rest, 1),
         "random" => random_command(rest),
         "strike" => strike_command(rest),
         "sums" => sums_command(rest),
         "--help" | "-h" | "help" => Ok(Command::Help),
-        word if word.starts_with("--") => Err(ArgsError::UnknownOption),
-        _ => play_command(words),
+        word if word.starts_with("--") => Err(ArgsError::UnknownOption(0)),
+        _ => play_command(words, 0),
     }
 }
 

@@ -3,21 +3,36 @@
 
 #[cfg(test)]
 mod tests {
-    use river::{Item, parse, parse_within};
+    use river::{InFile, Item, parse, parse_within};
     use std::test::Fail;
 
     // A text, and what is said of it where a gauge has at most two readings.
-    const BAD: [(&str, &str); 22] = [
+    const BAD: [(&str, &str); 25] = [
         ("gague 1", "line 1: no line begins with this word"),
         ("\n# a comment\ngauge # 1", "line 3: a number is missing"),
-        ("gauge one", "line 1: this is not a number below 2^64"),
+        (
+            "gauge one",
+            "line 1: this is no number: a number is digits alone, below 2^64",
+        ),
         (
             "happens\npoke 18446744073709551616",
-            "line 2: this is not a number below 2^64",
+            "line 2: this is no number: a number is digits alone, below 2^64",
         ),
         (
             "gauge 0\n12x 1 1",
-            "line 2: this is not a number below 2^64",
+            "line 2: this is no number: a number is digits alone, below 2^64",
+        ),
+        (
+            "gauge 0\n-10 1 1",
+            "line 2: this is no number: a number is digits alone, below 2^64",
+        ),
+        (
+            "happens\ncalm +10 1",
+            "line 2: this is no number: a number is digits alone, below 2^64",
+        ),
+        (
+            "\u{feff}# a river\ngauge 1",
+            "line 1: a byte order mark stands before this line: save the file without one",
         ),
         ("happens now", "line 1: there is a word too many"),
         ("gauge 8", "line 1: there is no such gauge"),
@@ -65,6 +80,57 @@ mod tests {
             };
             let said = format!(in heap; "{mistake}")?;
             assert!(rt; said.as_str() == told, "{}", text);
+        }
+        Ok(())
+    }
+
+    // A text, and the word that is said of it.
+    const WORDS: [(&str, &str); 9] = [
+        (
+            "# one\ngague 1",
+            "a.river, line 2: no line begins with this word: `gague`",
+        ),
+        (
+            "gauge 0\n-10 1 1",
+            "a.river, line 2: this is no number: a number is digits alone, below 2^64: `-10`",
+        ),
+        (
+            "gauge 0\n10 +1 1 # 3",
+            "a.river, line 2: this is no number: a number is digits alone, below 2^64: `+1`",
+        ),
+        (
+            "happens\r\nworks 1 x\r\n",
+            "a.river, line 2: this is no number: a number is digits alone, below 2^64: `x`",
+        ),
+        (
+            "happens\npoke 1 2 # 3",
+            "a.river, line 2: there is a word too many: `2`",
+        ),
+        ("gauge", "a.river, line 1: a number is missing"),
+        ("gauge 9", "a.river, line 1: there is no such gauge"),
+        (
+            "\u{feff}gauge 1",
+            "a.river, line 1: a byte order mark stands before this line: save the file without one",
+        ),
+        (
+            "Überschwemmungsüberwachung",
+            "a.river, line 1: no line begins with this word: `Überschwemmungsüberwachu`",
+        ),
+    ];
+
+    #[test]
+    fn the_word_is_told(rt: HostRuntime) -> Result<(), Fail> {
+        let heap = rt.alloc();
+        for (text, told) in WORDS {
+            let Err(mistake) = parse(heap, text) else {
+                return Err(Fail::new(text));
+            };
+            let said = InFile {
+                file: "a.river",
+                text,
+                mistake,
+            };
+            assert_eq!(rt; format!(in heap; "{said}")?.as_str(), told);
         }
         Ok(())
     }

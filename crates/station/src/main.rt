@@ -1,15 +1,23 @@
 // One machine on real files; its wires are standard input and output.
 #![tactic(auto)]
 
-use status::status;
-use std::env;
+use status::{Failure, is_version_asked, print_version, status};
 use std::process::ExitCode;
+use std::{env, io};
+
+const NAME: &str = "station";
 
 fn main(rt: HostRuntime) -> ExitCode {
-    status(&rt, "station", run(&rt))
+    status(&rt, NAME, run(&rt))
 }
 
-fn run(rt: &HostRuntime) -> anyhow::Result<()> {
-    let words = env::args(rt)?.skip(1).collect(rt.alloc())?;
+fn run(rt: &HostRuntime) -> Result<(), Failure> {
+    let words: Vec<String> = env::args(rt)
+        .map_err(Failure::refused)?
+        .skip(1)
+        .collect(rt.alloc())?;
+    if is_version_asked(words.as_slice()) {
+        return print_version(&mut io::writer(rt), NAME);
+    }
     keeper::run(rt, words, rt.reader())
 }

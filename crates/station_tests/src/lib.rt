@@ -26,16 +26,24 @@ hour 3 place 1023: 4294967295
         Ok(())
     }
 
-    // What the program says of these words and wires; nothing where it ends well.
+    // The status with which the program ends for these words and wires, and what it says; nothing where it ends well.
     fn said(rt: &HostRuntime, words: &str, wires: &str) -> Result<String, Fail> {
+        said_of(rt, words, wires.as_bytes())
+    }
+
+    // The same of wires of any bytes.
+    fn said_of(rt: &HostRuntime, words: &str, wires: &[u8]) -> Result<String, Fail> {
         let heap = rt.alloc();
         let mut list = Vec::new(heap);
         for word in words.split_whitespace() {
             list.push(format!(in heap; "{word}")?)?;
         }
-        match keeper::run(rt, list, wires.as_bytes()) {
+        match keeper::run(rt, list, wires) {
             Ok(()) => Ok(String::new(heap)),
-            Err(error) => Ok(format!(in heap; "{error}")?),
+            Err(failure) => {
+                let code = failure.code();
+                Ok(format!(in heap; "{code}: {failure}")?)
+            }
         }
     }
 
@@ -59,9 +67,69 @@ hour 3 place 1023: 4294967295
         let words = "--wall b/wall --gauge b/gauge 0 --drawers b/drawers";
         assert!(rt;
             said(&rt, words, "poke\npeek\npoke\n")?.as_str()
-                == "wires, line 2: a line is `poke` or begins with `from`"
+                == "2: wires, line 2: a line is `poke` or begins with `from`"
         );
         assert!(rt; fs::read_to_string(&rt, "b/wall")?.as_str() == WALL);
+        Ok(())
+    }
+
+    // Also in a comment; all was told before it was heard.
+    #[test]
+    fn a_line_that_is_no_text(rt: HostRuntime) -> Result<(), Fail> {
+        folder(&rt, "e")?;
+        let words = "0 --drawers e/drawers --gauge e/gauge --wall e/wall";
+        assert!(rt;
+            said_of(&rt, words, b"poke\n\npoke # \xff\n")?.as_str()
+                == "2: wires, line 3: it is no UTF-8"
+        );
+        assert!(rt; fs::read_to_string(&rt, "e/wall")?.as_str() == WALL);
+        Ok(())
+    }
+
+    // A value may begin as an option does.
+    #[test]
+    fn an_option_that_there_is_not(rt: HostRuntime) -> Result<(), Fail> {
+        for words in ["0 --walls w --gauge g", "--wall -w 0 --walls"] {
+            assert!(rt; said(&rt, words, "")?.as_str() == "2: `--walls`: there is no such option");
+        }
+        Ok(())
+    }
+
+    // Each is refused before it is read, and nothing is changed.
+    #[test]
+    fn files_that_did_harm(rt: HostRuntime) -> Result<(), Fail> {
+        folder(&rt, "f")?;
+        let words = "0 --drawers f/drawers --gauge f/gauge --wall /dev/zero";
+        assert!(rt; said(&rt, words, "")?.as_str() == "2: /dev/zero is no plain file");
+        let words = "0 --drawers f/drawers --gauge f/gauge --wall f/gauge";
+        assert!(rt;
+            said(&rt, words, "")?.as_str()
+                == "2: the wall f/gauge and the gauge's file f/gauge are one file"
+        );
+        assert!(rt; fs::read_to_string(&rt, "f/gauge")?.as_str() == RIVER);
+        fs::write(&rt, "f/notes", "a note\n")?;
+        let words = "0 --drawers f/drawers --gauge f/gauge --wall f/notes";
+        assert!(rt;
+            said(&rt, words, "")?
+                .as_str()
+                .starts_with("2: f/notes is no wall: line 1: ")
+        );
+        assert!(rt; fs::read_to_string(&rt, "f/notes")?.as_str() == "a note\n");
+        assert!(rt; !fs::exists(&rt, "f/drawers/released")?);
+        Ok(())
+    }
+
+    // What could not be done is no refusal.
+    #[test]
+    fn a_drawer_that_cannot_be_written(rt: HostRuntime) -> Result<(), Fail> {
+        folder(&rt, "g")?;
+        fs::create_dir(&rt, "g/drawers/released.new")?;
+        let words = "0 --drawers g/drawers --gauge g/gauge --wall g/wall";
+        assert!(rt;
+            said(&rt, words, "")?
+                .as_str()
+                .starts_with("1: g/drawers/released cannot be written: ")
+        );
         Ok(())
     }
 
@@ -79,9 +147,11 @@ hour 3 place 1023: 4294967295
     fn words_that_are_no_good(rt: HostRuntime) -> Result<(), Fail> {
         folder(&rt, "d")?;
         let words = "8 --drawers d/drawers --gauge d/gauge --wall d/wall";
-        assert!(rt; said(&rt, words, "")?.as_str() == "a machine's number is 0 to 7");
+        assert!(rt; said(&rt, words, "")?.as_str() == "2: a machine's number is 0 to 7");
         let words = "0 --drawers d/none --gauge d/gauge --wall d/wall";
-        assert!(rt; said(&rt, words, "")?.as_str() == "there is no folder d/none for the drawers");
+        assert!(rt;
+            said(&rt, words, "")?.as_str() == "2: there is no folder d/none for the drawers"
+        );
         assert!(rt; !fs::exists(&rt, "d/wall")?);
         Ok(())
     }

@@ -1,6 +1,7 @@
 -- Text as bytes: its lines, the words of a line, and the number that a word writes. Assumes nothing: these are definitions.
 use Rattle.std.specs.Prelude.{◌≡◌, ℕ, ◌+◌, ◌-◌, ◌*◌, Bool, true, cond, ◌&&◌, ◌||◌, List, [], ◌∷◌, length, Some, None, Option, ◌==◌, nat_eq, nat_le, nat_lt}
 use Rattle.text.specs.declared.read.Lines.{Lines}
+use Rattle.text.specs.declared.read.Words.{Words}
 
 abbrev pub Bytes : Type 0
 Bytes = List ℕ
@@ -58,6 +59,9 @@ word_ends (b ∷ bs) = blank b
 unfoldable pub words : Bytes → List Bytes
 words [] = []
 words (b ∷ bs) = cond (blank b) (words bs) (cond (word_ends bs) ((b ∷ []) ∷ words bs) (in_front b (words bs)))
+
+abbrev pub words_left : Words → List Bytes
+words_left s = words s.rest.now
 
 -- the words that stand before the comment
 abbrev pub said : Bytes → List Bytes

@@ -6,6 +6,6 @@ mod read;
 
 pub use base16::{HexError, hex, unhex};
 pub use read::{
-    Lines, decimal, first_line, first_word, is_torn, same, starts_with_digit, uncommented,
+    Lines, Words, decimal, first_line, first_word, is_torn, same, starts_with_digit, uncommented,
     until_dot, whole,
 };

@@ -2,7 +2,7 @@
 ghost use Rattle.std.specs.Prelude.{◌≡◌, ℕ, Bool, ◌<◌, ◌≤◌, [], ◌∷◌, length, take, drop, MatchOption, nat_eq, slice_index};
 ghost use Rattle.std.specs.Iterator.{YieldsFirstRef, at_most};
 ghost use Rattle.std.specs.Str.{bytes_eq};
-ghost use Rattle.text.specs.Text.{Computes, before, digit, from, lines, lines_left, whole_lines, words};
+ghost use Rattle.text.specs.Text.{Computes, before, digit, from, lines, lines_left, whole_lines, words, words_left};
 ghost use Rattle.text.specs.Text as spec;
 
 fn is_blank(byte: u8) -> bool
@@ -103,6 +103,34 @@ pub fn first_word(bytes: &[u8]) -> Option<(&[u8], &[u8])>
         return None;
     }
     Some(cut(solid, is_blank))
+}
+
+// The words of a line, one after the other.
+#[derive(Drop)]
+pub struct Words<'a> {
+    rest: &'a [u8],
+}
+
+impl<'a> Words<'a> {
+    pub fn new(line: &'a [u8]) -> Words<'a>
+        ensures { words_left result ≡ words line.now }
+    {
+        Words { rest: line }
+    }
+}
+
+impl<'a> Iterator for Words<'a> {
+    type Item = &'a [u8];
+
+    ghost next_gives = { YieldsFirstRef words_left };
+
+    ghost remaining = { λ s. at_most (length (words s.rest.now)) };
+
+    fn next(&mut self) -> Option<&'a [u8]> {
+        let (word, rest) = first_word(self.rest)?;
+        self.rest = rest;
+        Some(word)
+    }
 }
 
 // Whether a word is this name: `==` wants `.as_slice()` at each.

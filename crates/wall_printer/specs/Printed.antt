@@ -1,5 +1,5 @@
 -- What is printed of a wall. Assumes nothing: these are definitions.
-use Rattle.std.specs.Prelude.{◌≡◌, true, false, Bool, List, ◌++◌, None, Ok, Err, Option, Result, IfSome, codes}
+use Rattle.std.specs.Prelude.{◌≡◌, ℕ, true, false, Bool, List, ◌++◌, None, Ok, Err, Option, Result, IfSome, codes}
 use Rattle.std.specs.Io.KnownBytes.{Appends}
 use Rattle.sums.specs.Sums.{those}
 use Rattle.text.specs.Text.{Bytes, whole_lines}
@@ -8,7 +8,10 @@ use Rattle.rows.specs.declared.Row.{Row}
 use Rattle.rows.specs.Walls.{as_wall}
 use Rattle.wall_reader.specs.Filters.{lets_through}
 use Rattle.wall_reader.specs.Reads.{TableOf}
-use Rattle.wall_reader.specs.Shown.{row_line, csv_line}
+use Rattle.rows.specs.Shown.{row_line}
+use Rattle.wall_reader.specs.Shown.{csv_line}
+use Rattle.wall_reader.specs.declared.mistake.WallMistake.{WallMistake}
+use Rattle.wall_reader.specs.declared.mistake.WallMistake.TheVariants.{Line, Contradiction, Memory}
 use Rattle.wall_reader.specs.declared.words.Form.{Form}
 use Rattle.wall_reader.specs.declared.words.Form.TheVariants.{Rows, Csv, Chart}
 use Rattle.wall_reader.specs.declared.words.Misuse.{Misuse}
@@ -34,3 +37,9 @@ Answers false q input old new = ShowsWall q input old new
 abbrev pub Does : Result Request Misuse → (input old new : Option Bytes) → Type 0
 Does (Ok q) input old new = Answers q.help q input old new
 Does (Err m) input old new = ⊥
+
+-- a line that is no row is refused, and two sums of one hour and place are wrong
+abbrev pub status_by : WallMistake → ℕ
+status_by (Line n e) = 2
+status_by (Contradiction n h k first second) = 1
+status_by Memory = 1

@@ -1,9 +1,9 @@
-// A chart, a line for each mark.
-use crate::program::Failure;
+// A chart, a line for each mark, written at once.
 use rows::Row;
+use status::Failure;
 use std::fmt;
 use std::io::Write;
-use wall_reader::{Mark, chart};
+use wall_reader::{ChartMistake, Mark, chart};
 
 // A mark with its hour in so many columns.
 #[derive(Clone, Copy)]
@@ -18,24 +18,26 @@ impl fmt::Display for Drawn {
             return f.write_str("...");
         };
         let columns = self.columns;
-        write!(f, "{hour:>columns$} |")?;
-        for _ in 0..length {
-            f.write_str("#")?;
-        }
-        write!(f, " {sum}")
+        let bar = length as usize;
+        write!(f, "{hour:>columns$} |{:#<bar$} {sum}", "")
     }
 }
 
 pub fn print_chart<W: Write>(rt: &HostRuntime, out: &mut W, rows: &[Row]) -> Result<(), Failure> {
     let heap = rt.alloc();
-    let marks = chart(heap, rows)?;
+    let marks = match chart(heap, rows) {
+        Ok(marks) => marks,
+        Err(ChartMistake::Memory) => return Err(Failure::wrong(ChartMistake::Memory)),
+        Err(mistake) => return Err(Failure::refused(mistake)),
+    };
     let columns = match rows.last() {
         Some(Row { hour, .. }) => format!(in heap; "{hour}")?.len(),
         None => 0,
     };
+    let mut text = String::new(heap);
     for &mark in marks.iter() {
         let drawn = Drawn { mark, columns };
-        writeln!(out, "{drawn}")?;
+        writeln!(text, "{drawn}")?;
     }
-    Ok(())
+    Ok(write!(out, "{text}")?)
 }

@@ -4,4 +4,4 @@
 mod chart;
 mod program;
 
-pub use program::{Failure, run};
+pub use program::run;

@@ -2,21 +2,21 @@
 ghost use Rattle.std.specs.Prelude.{◌≡◌, IfOk, OnOk, IfSome, string_bytes};
 ghost use Rattle.sums.specs.Sums.{each};
 ghost use Rattle.wall_reader.specs.Requests.{asked_by};
-ghost use Rattle.wall_printer.specs.Printed.{Shows, Does};
+ghost use Rattle.status.specs.Endings.{status_of};
+ghost use Rattle.wall_printer.specs.Printed.{Shows, Does, status_by};
 
 use crate::chart::print_chart;
+use anyhow::anyhow;
 use rows::Row;
+use status::Failure;
 use std::alloc::{AllocError, Global};
+use std::fs;
 use std::io::{Read, Write};
-use std::{fs, io};
 use text::is_torn;
-use thiserror::Error;
-use wall_reader::{
-    ChartMistake, Complaint, Form, Misuse, WallMistake, chosen, csv_text, parse_words, rows_text,
-};
+use wall_reader::{Form, Misuse, WallMistake, chosen, csv_text, parse_words, rows_text};
 
 const USAGE: &str = "\
-usage: wall [FILE] [--hour H] [--hours A..B] [--place P] [--csv | --chart] [--help]
+usage: wall [FILE] [--hour H] [--hours A..B] [--place P] [--csv | --chart]
 
 Reads a wall from FILE or from standard input, a row `hour H place P: S` on each line,
 and prints each hour and place once, in order.
@@ -26,29 +26,12 @@ and prints each hour and place once, in order.
   --place P     only this place
   --csv         comma-separated values below a header
   --chart       a bar for each hour of one place
-  --help        this text
+  --help, -h    this text
+  --version     the program and the kit that it is built with
 ";
 
 // Said beside the rows: a station may be writing that line.
 const TORN: &str = "the last line has no end, so it is no row yet: it is left out";
-
-#[derive(Debug, Drop, Error)]
-pub enum Failure {
-    // A word, and what is wrong with it.
-    #[error("{0}: {1}")]
-    Word(String, Complaint),
-    // What cannot be read, and why.
-    #[error("{0} cannot be read: {1}")]
-    Input(String, io::Error),
-    #[error("the rows cannot be written: {0}")]
-    Output(#[from] io::Error),
-    #[error(transparent)]
-    Wall(#[from] WallMistake),
-    #[error(transparent)]
-    Chart(#[from] ChartMistake),
-    #[error("there is not enough memory")]
-    Memory(#[from(alloc)] AllocError),
-}
 
 // Does what these words ask for; without a file the wall is the input.
 pub fn run<R: Read, W: Write>(
@@ -63,17 +46,22 @@ pub fn run<R: Read, W: Write>(
     let request = match parse_words(words.as_slice()) {
         Ok(request) => request,
         Err(Misuse { word, complaint }) => {
-            return Err(Failure::Word(nth(heap, words, word), complaint));
+            let word = nth(heap, words, word);
+            return Err(Failure::Refused(anyhow!("{word}: {complaint}")));
         }
     };
     if request.help {
         return Ok(write!(out, "{USAGE}")?);
     }
+    let name = input_name(heap, words, request.file)?;
     let text = match request.file {
-        Some(word) => read_file(rt, nth(heap, words, word))?,
+        Some(_) => read_file(rt, name.as_str())?,
         None => read_input(heap, input)?,
     };
-    let rows = wall_reader::read(heap, text.as_str())?;
+    let rows = match wall_reader::read(heap, text.as_str()) {
+        Ok(rows) => rows,
+        Err(mistake) => return Err(failure_of(name.as_str(), mistake)),
+    };
     let some = chosen(heap, rows.as_slice(), &request.filter)?;
     print_rows(rt, out, some.as_slice(), request.form)?;
     if is_torn(text.as_bytes()) {
@@ -103,8 +91,29 @@ fn nth(heap: Global, words: Vec<String>, at: usize) -> String {
     words.into_iter().nth(at).unwrap_or(String::new(heap))
 }
 
-fn read_file(rt: &HostRuntime, path: String) -> Result<String, Failure> {
-    fs::read_to_string(rt, path.as_str()).map_err(|error| Failure::Input(path, error))
+// What is read: the file that this word names, or standard input.
+fn input_name(heap: Global, words: Vec<String>, file: Option<usize>) -> Result<String, AllocError> {
+    match file {
+        Some(word) => Ok(nth(heap, words, word)),
+        None => String::from_str(heap, "standard input"),
+    }
+}
+
+// A line that is no row is refused; two sums of one hour and place are a wall that is wrong.
+fn failure_of(name: &str, mistake: WallMistake) -> Failure
+    ensures { status_of result ≡ status_by mistake }
+{
+    let said = anyhow!("{name}, {mistake}");
+    match mistake {
+        WallMistake::Line(..) => Failure::Refused(said),
+        WallMistake::Contradiction { .. } | WallMistake::Memory => Failure::Wrong(said),
+    }
+}
+
+fn read_file(rt: &HostRuntime, path: &str) -> Result<String, Failure> {
+    fs::read_to_string(rt, path).map_err(|error| Failure::Refused(anyhow!(
+        "{path} cannot be read: {error}"
+    )))
 }
 
 fn read_input<R: Read>(heap: Global, input: &mut R) -> Result<String, Failure>
@@ -113,6 +122,6 @@ fn read_input<R: Read>(heap: Global, input: &mut R) -> Result<String, Failure>
     let mut text = String::new(heap);
     match input.read_to_string(&mut text) {
         Ok(_) => Ok(text),
-        Err(error) => Err(Failure::Input(String::from_str(heap, "standard input")?, error)),
+        Err(error) => Err(Failure::Refused(anyhow!("standard input cannot be read: {error}"))),
     }
 }

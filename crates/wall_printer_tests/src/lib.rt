@@ -89,6 +89,11 @@ hour 10 place 1: 24
             printed(&rt, "some-wall", WALL)?.as_str(),
             "hour 7 place 0: 1\n"
         );
+        fs::write(&rt, "bad-wall", "hour 7 place 0: 1\nhour 7\n")?;
+        assert_eq!(rt;
+            printed(&rt, "bad-wall", WALL)?.as_str(),
+            "refused: bad-wall, line 2: a row is `hour H place P: S`, and here are too few words"
+        );
         assert!(rt;
             printed(&rt, "no-wall", WALL)?
                 .as_str()
@@ -120,7 +125,7 @@ hour 10 place 1: 24
         let twice = "hour 1 place 1: 5\nhour 1 place 1: 6\n";
         assert_eq!(rt;
             printed(&rt, "", twice)?.as_str(),
-            "refused: line 2: hour 1 place 1 is 6 here and 5 above"
+            "refused: standard input, line 2: hour 1 place 1 is 6 here and 5 above"
         );
         assert_eq!(rt;
             printed(&rt, "--chart", "")?.as_str(),

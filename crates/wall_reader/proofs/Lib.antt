@@ -4,3 +4,4 @@ pub mod Reading
 pub mod Walls
 pub mod Marks
 pub mod Wording
+mod Tailing

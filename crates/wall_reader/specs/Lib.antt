@@ -5,3 +5,4 @@ pub mod Charts
 pub mod Requests
 pub mod Shown
 pub mod Worked
+pub mod Tails

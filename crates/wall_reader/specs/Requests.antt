@@ -1,5 +1,5 @@
 -- What the words behind the program's name ask for. Assumes nothing: these are definitions.
-use Rattle.std.specs.Prelude.{ℕ, ◌+◌, ◌-◌, Bool, true, false, cond, List, [], ◌∷◌, drop, is_some, Some, None, Ok, Err, codes, Option, Result, ◌==◌, nat_eq, nat_lt, slice_index}
+use Rattle.std.specs.Prelude.{ℕ, ◌+◌, ◌-◌, Bool, true, false, cond, ◌||◌, List, [], ◌∷◌, drop, is_some, Some, None, Ok, Err, codes, Option, Result, ◌==◌, nat_eq, nat_lt, slice_index}
 use Rattle.std.specs.Str.{bytes_eq}
 use Rattle.text.specs.Text.{Bytes, before, from, decimal}
 use Rattle.wall_reader.specs.declared.asked.Filter.{Filter}
@@ -24,7 +24,7 @@ kind_of w =
     (cond (bytes_eq w (codes "--place")) (kind.Valued valued_option.Place)
     (cond (bytes_eq w (codes "--csv")) kind.Csv
     (cond (bytes_eq w (codes "--chart")) kind.Chart
-    (cond (bytes_eq w (codes "--help")) kind.Help
+    (cond (bytes_eq w (codes "--help") || bytes_eq w (codes "-h")) kind.Help
     (cond (slice_index w 0 == 45) kind.Unknown kind.File))))))
 
 abbrev pub hours_between : Option ℕ → Option ℕ → Result Hours Complaint

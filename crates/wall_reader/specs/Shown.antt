@@ -3,8 +3,5 @@ use Rattle.std.specs.Prelude.{◌++◌, codes, decimal}
 use Rattle.rows.specs.declared.Row.{Row}
 use Rattle.text.specs.Text.{Bytes}
 
-abbrev pub row_line : Row → Bytes
-row_line r = codes "hour " ++ (decimal r.hour ++ (codes " place " ++ (decimal r.place ++ (codes ": " ++ decimal r.sum))))
-
 abbrev pub csv_line : Row → Bytes
 csv_line r = decimal r.hour ++ (codes "," ++ (decimal r.place ++ (codes "," ++ decimal r.sum)))

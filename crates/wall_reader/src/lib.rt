@@ -7,6 +7,7 @@ mod line;
 mod mistake;
 mod reader;
 mod shown;
+mod tail;
 mod words;
 
 pub use asked::{Filter, Hours, chosen};
@@ -15,4 +16,5 @@ pub use line::{print_and_read, read_row};
 pub use mistake::{Reason, WallMistake};
 pub use reader::read;
 pub use shown::{csv_text, rows_text};
+pub use tail::{TailMistake, whole_rows};
 pub use words::{Complaint, Form, Misuse, Request, parse_words, worked_requests};

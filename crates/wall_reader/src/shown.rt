@@ -1,7 +1,8 @@
 // Rows as text, a line each.
 ghost use Rattle.std.specs.Prelude.{◌≡◌, ◌++◌, IfOk, codes, string_bytes};
 ghost use Rattle.text.specs.Written.{lined, lines_of};
-ghost use Rattle.wall_reader.specs.Shown.{row_line, csv_line};
+ghost use Rattle.rows.specs.Shown.{row_line};
+ghost use Rattle.wall_reader.specs.Shown.{csv_line};
 
 use rows::Row;
 use std::alloc::{AllocError, Global};

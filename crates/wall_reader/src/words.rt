@@ -83,7 +83,7 @@ impl Kind {
             "--place" => Kind::Valued(Valued::Place),
             "--csv" => Kind::Csv,
             "--chart" => Kind::Chart,
-            "--help" => Kind::Help,
+            "--help" | "-h" => Kind::Help,
             _ if word.starts_with('-') => Kind::Unknown,
             _ => Kind::File,
         }

@@ -12,7 +12,7 @@ use Rattle.sums.proofs.Eaches.{length_each}
 use Rattle.promise.proofs.Machines.{machine_past, set_past}
 use Rattle.hut.proofs.Eaches.{each_set_nth}
 
-hut_at : (hs : List Hut) (i : ℕ) (h : Hut) → i < length hs → h ≡ get_or hs i h → machine_at (each as_machine hs) i ≡ as_machine h
+pub hut_at : (hs : List Hut) (i : ℕ) (h : Hut) → i < length hs → h ≡ get_or hs i h → machine_at (each as_machine hs) i ≡ as_machine h
 unfolding each machine_at
 hut_at [] i h lt is = absurd (omega arith)
 hut_at (x ∷ hs) zero h lt is = ap as_machine (sym is)

@@ -4,3 +4,4 @@ mod Turning
 mod Shorts
 pub mod Unrolling
 pub mod Tallying
+pub mod Portions

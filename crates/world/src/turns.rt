@@ -3,6 +3,7 @@ ghost use Rattle.std.specs.Prelude.{◌≡◌, false, [], ◌∷◌, IfOk, OnOk,
 ghost use Rattle.machine.specs.Entry.{own};
 ghost use Rattle.machine.specs.Run.{machine_at, nth_row, poked, delivered, fallen, goes, works};
 ghost use Rattle.sums.specs.Readings.{as_row, as_gauges};
+ghost use Rattle.sums.specs.Sums.{none_of, or};
 ghost use Rattle.world.specs.Rounds.{pokes, letters_to, a_round, all_rounds, written_out};
 ghost use Rattle.world.specs.Tallies.{next_counted, acts_counted, all_counted};
 ghost use Rattle.world.specs.Worlds.{as_world, HasRoom, Went, took_place, Passed, CutShort};
@@ -28,6 +29,16 @@ fn row_of(gauges: &[Vec<Reading>], i: u64) -> &[Reading]
 
 // Heap and gauges go along as two arguments: bound in one, they would only have a longer name in each contract.
 impl World {
+    // Machine i does nothing till something else happens: it rests, there is no such machine, or one is at fault.
+    pub fn is_still(&self, i: u64) -> bool
+        ensures { result ≡ or self.now.fault (none_of (machine_at (as_world self.now).machines i).pending) }
+    {
+        match self.huts.get(i as usize) {
+            Some(hut) => self.fault || hut.rests(),
+            None => true,
+        }
+    }
+
     // Machine i is told to go on, if it rests.
     fn poke(&mut self, i: u64)
         ensures world { as_world self.new ≡ poked (as_world self.old) i }

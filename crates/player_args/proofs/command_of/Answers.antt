@@ -13,19 +13,19 @@ passed :
     (w : Bytes) (ws : List Bytes)
     → (w ≡ codes "play" → ⊥) → (w ≡ codes "random" → ⊥) → (w ≡ codes "strike" → ⊥) → (w ≡ codes "sums" → ⊥)
     → (w ≡ codes "--help" → ⊥) → (w ≡ codes "-h" → ⊥) → (w ≡ codes "help" → ⊥) → starts_with eqb w (codes "--") ≡ false
-    → named w ws ≡ play_of (w ∷ ws)
+    → named w ws ≡ play_of 0 (w ∷ ws)
 passed w ws p r s m help h i d = search rules
 
 -- what is asked by words that are asked behind `play` too
 behind :
     (words : List (String Global)) (name : String Global) (w : Bytes) (r : Result Command ArgsError)
     → 1 ≤ length words → name ≡ get_or words 0 name → w ≡ string_bytes name
-    → ((ws : List Bytes) → named w ws ≡ play_of (w ∷ ws))
-    → Answers (play_of (map string_bytes words)) r → Answers (asked (map string_bytes words)) r
+    → ((ws : List Bytes) → named w ws ≡ play_of 0 (w ∷ ws))
+    → Answers (play_of 0 (map string_bytes words)) r → Answers (asked (map string_bytes words)) r
 behind [] name w r long is by same h = absurd (omega arith)
 behind (word ∷ words) name w r long is by same h =
     let at : string_bytes word ≡ w = ap string_bytes (sym is) ∙ sym by in
-    let there : named (string_bytes word) (map string_bytes words) ≡ play_of (string_bytes word ∷ map string_bytes words) =
+    let there : named (string_bytes word) (map string_bytes words) ≡ play_of 0 (string_bytes word ∷ map string_bytes words) =
     rw at (same (map string_bytes words))
     in
     rw there h

@@ -1,5 +1,0 @@
-mod Lines
-mod Told
-mod Ends
-mod Shown
-mod Quiet

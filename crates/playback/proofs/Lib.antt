@@ -1,0 +1,3 @@
+mod Told
+mod Ends
+mod Shown

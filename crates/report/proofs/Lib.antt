@@ -1,0 +1,2 @@
+mod Lines
+pub mod Oks
