@@ -1,0 +1,2 @@
+// The protocol of eight machines, as functions on records.
+#![tactic(auto)]

@@ -1,0 +1,14 @@
+pub mod ToldAgain
+pub mod Wires
+pub mod Underway
+pub mod Drawers
+pub mod Simulation
+pub mod Simulated
+pub mod Engines
+pub mod Alike
+pub mod AlikeChoices
+pub mod AlikeSteps
+pub mod Same
+pub mod OnceGiven
+pub mod Mirrored
+pub mod Promised

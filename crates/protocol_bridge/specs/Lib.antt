@@ -1,0 +1,4 @@
+pub mod Engines
+pub mod Same
+pub mod Views
+pub mod Promises

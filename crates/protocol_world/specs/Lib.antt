@@ -1,0 +1,9 @@
+pub mod Gauges
+pub mod Wall
+pub mod Worlds
+pub mod Runs
+pub mod Theorems
+pub mod Sizes
+pub mod Log
+pub mod Drawers
+pub mod Enough
