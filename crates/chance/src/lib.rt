@@ -6,5 +6,5 @@ mod rivers;
 mod spelling;
 
 pub use random::Random;
-pub use rivers::random_river;
+pub use rivers::{last_calm, random_river};
 pub use spelling::river_text;

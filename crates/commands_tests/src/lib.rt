@@ -6,28 +6,29 @@ mod tests {
     use std::fs;
     use std::test::Fail;
 
-    // Its machine is let go of when it has told two rows.
+    // It ends when two rows are told.
     const WITHOUT_CALM: &str = "gauge 0
 10 1 4
 50 2 0
 130 1 7
 210 3 5
 happens
-works 0 11
+calm 2 100
 ";
 
-    // A row is told by the first item, two by the third and one by the last.
+    // Two rows are told in the first calm, and two in the last.
     const IN_PARTS: &str = "gauge 0
 10 1 4
 50 2 0
 130 1 7
 210 3 5
 happens
+calm 2 100
 works 0 9
 works 3 5
 works 0 14
 falls 2
-calm 1 100
+calm 8 100
 ";
 
     const TWO_GAUGES: &str = "gauge 0
@@ -36,14 +37,14 @@ gauge 1
 10 1 3
 120 5 2
 happens
-calm 1 100
+calm 8 100
 ";
 
-    // A machine that does 14 acts and rests.
+    // A machine that does four acts.
     const ONE_ROW: &str = "gauge 0
 10 1 4
 happens
-works 0 100
+works 0 4
 ";
 
     // Strokes, and nothing for them to meet.
@@ -63,7 +64,7 @@ poke 0
 happens
 works 0 9000000
 falls 0
-calm 3 5000000
+calm 8 5000000
 ";
 
     // Runs a command on a file with this text, in a folder of its own, and the same text as its input: what is printed, and behind it what is wrong, where something is.
@@ -142,7 +143,6 @@ untold: hour 2 place 3: 5
         Ok(())
     }
 
-    // A river that is not played has sums too.
     #[test]
     fn sums(rt: HostRuntime) -> Result<(), Fail> {
         let wanted = "hour 0 place 1: 7\nhour 1 place 5: 2\n";
@@ -150,13 +150,15 @@ untold: hour 2 place 3: 5
         Ok(())
     }
 
+    // Readings of all gauges are added up.
     #[test]
-    fn a_river_that_is_not_played(rt: HostRuntime) -> Result<(), Fail> {
-        let wanted =
-            "error: not-played/river: gauge 1 has readings, and only those of gauge 0 are added up so far";
-        for line in ["play FILE", "play FILE --stats", "strike FILE"] {
-            assert_eq!(rt; run(&rt, "not-played", TWO_GAUGES, line)?.as_str(), wanted);
-        }
+    fn two_gauges(rt: HostRuntime) -> Result<(), Fail> {
+        let wanted = "\
+hour 0 place 1: 7
+hour 1 place 5: 2
+3 readings, 2 rows told, 0 wrong, 0 untold: what is told is right, and all is told
+";
+        assert_eq!(rt; run(&rt, "two", TWO_GAUGES, "play FILE")?.as_str(), wanted);
         Ok(())
     }
 
@@ -166,7 +168,7 @@ untold: hour 2 place 3: 5
         let sums = "hour 0 place 1: 7\nhour 1 place 5: 2\n";
         assert_eq!(rt; run(&rt, "input", TWO_GAUGES, "sums -")?.as_str(), sums);
         let walls =
-            "14 walls, 15 rows told, 1 told again, 0 too often, 0 wrong, 0 untold, 0 faults\n";
+            "4 walls, 4 rows told, 0 told again, 0 too often, 0 wrong, 0 untold, 0 faults\n";
         assert_eq!(rt; run(&rt, "input", ONE_ROW, "strike -")?.as_str(), walls);
         let wanted = "error: input/none cannot be read: No such file or directory (os error 2)";
         assert_eq!(rt;
@@ -180,15 +182,15 @@ untold: hour 2 place 3: 5
     #[test]
     fn random(rt: HostRuntime) -> Result<(), Fail> {
         let wanted =
-            "20 rivers, 42943 readings, 6638 rows told, 0 too often, 0 wrong, 0 untold, 0 faults\n";
-        assert_eq!(rt; run(&rt, "random", "", "random 1 20")?.as_str(), wanted);
+            "5 rivers, 48833 readings, 3613 rows told, 0 too often, 0 wrong, 0 untold, 0 faults\n";
+        assert_eq!(rt; run(&rt, "random", "", "random 1 5")?.as_str(), wanted);
         Ok(())
     }
 
     #[test]
     fn struck_once(rt: HostRuntime) -> Result<(), Fail> {
         let wanted =
-            "14 walls, 15 rows told, 1 told again, 0 too often, 0 wrong, 0 untold, 0 faults\n";
+            "4 walls, 4 rows told, 0 told again, 0 too often, 0 wrong, 0 untold, 0 faults\n";
         for line in ["strike FILE", "strike FILE 1"] {
             assert_eq!(rt; run(&rt, "once", ONE_ROW, line)?.as_str(), wanted);
         }
@@ -198,7 +200,7 @@ untold: hour 2 place 3: 5
     #[test]
     fn struck_twice(rt: HostRuntime) -> Result<(), Fail> {
         let wanted =
-            "166 walls, 188 rows told, 22 told again, 0 too often, 0 wrong, 0 untold, 0 faults\n";
+            "104 walls, 104 rows told, 0 told again, 0 too often, 0 wrong, 0 untold, 0 faults\n";
         assert_eq!(rt;
             run(&rt, "twice", ONE_ROW, "strike FILE 2")?.as_str(),
             wanted
@@ -223,10 +225,10 @@ hour 0 place 1: 4
 hour 0 place 2: 0
 untold: hour 1 place 1: 7
 untold: hour 2 place 3: 5
-11 acts, 3 asked, 1 sought, 1 released, 0 sent, 2 kept, 2 recalled, 2 told, 0 rested, 0 faults
-4 readings, 2 rows, 2 keeps, 1 releases
-2.75 acts for each reading
-5.50 acts for each row
+301 acts, 10 asked, 8 sought, 8 released, 119 sent, 10 kept, 16 recalled, 2 told, 128 rested, 0 faults
+4 readings, 2 rows, 10 keeps, 8 releases
+75.25 acts for each reading
+150.50 acts for each row
 ";
         let last = " us for the sums made at once
 4 readings, 2 rows told, 0 wrong, 2 untold: what is told is right, and not all is told

@@ -1,5 +1,5 @@
-pub mod Scans
 pub mod Cells
-pub mod Pagewise
 pub mod Entries
+mod Pagewise
 pub mod Longer
+pub mod Rows

@@ -3,8 +3,7 @@ use Rattle.std.proofs.Common.{◌≡◌, ℕ, ◌<◌, List, ◌++◌, length, d
 use Rattle.sums.specs.Cells.{pages}
 use Rattle.sums.specs.Pages.{page_length, page_bytes, encode_answer, page_written}
 use Rattle.sums.proofs.Columns.{length_page}
-use Rattle.gauge.specs.Deeds.{keep}
-use Rattle.gauge.specs.Deeds.{Answered}
+use Rattle.gauge.specs.Deeds.{keep, Answered}
 use Rattle.gauge.specs.Memory.{cells, page_sums_in, page_counts_in}
 use Rattle.gauge.specs.declared.act.Act.TheVariants as act
 use Rattle.gauge.proofs.Cells.{length_page_sums, length_page_counts}

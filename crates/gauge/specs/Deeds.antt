@@ -7,6 +7,7 @@ pub data Deed : Type 0 where
   more : Deed
   from : ℕ → Deed
   let_go : ℕ → Deed
+  sends : ℕ → List ℕ → Deed
   keep : ℕ → List ℕ → Deed
   recall : ℕ → Deed
   tells : ℕ → ℕ → ℕ → Deed
@@ -24,6 +25,7 @@ abbrev pub act_for : Deed → Act
 act_for more = act.More
 act_for (from p) = act.From p
 act_for (let_go p) = act.LetGo p
+act_for (sends j b) = act.Sends j (length b)
 act_for (keep d b) = act.Keep d (length b)
 act_for (recall d) = act.Recall d
 act_for (tells h k s) = act.Tells h k s
@@ -34,6 +36,7 @@ abbrev pub out_with : Deed → List ℕ → List ℕ
 out_with more out = out
 out_with (from p) out = out
 out_with (let_go p) out = out
+out_with (sends j b) out = b ++ drop (length b) out
 out_with (keep d b) out = b ++ drop (length b) out
 out_with (recall d) out = out
 out_with (tells h k s) out = out

@@ -1,5 +1,6 @@
 pub mod Memory
+pub mod Views
 pub mod Deeds
 pub mod Gauge
 pub mod Phases
-pub mod Readings
+pub mod Answers

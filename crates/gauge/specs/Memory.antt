@@ -1,89 +1,120 @@
--- The memory of a machine: eight named cells, then the sums and the counts of the hour at hand. Assumes nothing: these are definitions.
+-- The memory of a machine: named cells, a row of eight for each thing that is known of the eight machines, the tables of the hour at hand, and the page of
+-- each machine's last statement. Assumes nothing: these are definitions.
 use Rattle.std.specs.Prelude.{ℕ, ◌+◌, ◌*◌, List, take, drop, slice_index}
-use Rattle.sums.specs.Cells.{places, slots}
+use Rattle.sums.specs.Cells.{places, pages, slots}
 
--- where each cell is, and where the tables begin
+-- WHERE EACH CELL IS
+-- what is done next, by the number of the phase; with the page, or the slot and the hour, that it is about
 abbrev pub phase_at : ℕ
 phase_at = 0
 
 abbrev pub index_at : ℕ
 index_at = 1
 
-abbrev pub begun_at : ℕ
-begun_at = 2
+abbrev pub telling_at : ℕ
+telling_at = 2
+
+-- which machine it is
+abbrev pub me_at : ℕ
+me_at = 3
+
+-- the reader: its stage, by number, with its hour and the next; how many readings are in the tables or told; the page set that the root record names; whether it
+-- is paused; the root record's place; whether the tables have a reading
+abbrev pub stage_at : ℕ
+stage_at = 4
 
 abbrev pub hour_at : ℕ
-hour_at = 3
+hour_at = 5
+
+abbrev pub next_at : ℕ
+next_at = 6
 
 abbrev pub pos_at : ℕ
-pos_at = 4
+pos_at = 7
 
 abbrev pub set_at : ℕ
-set_at = 5
+set_at = 8
 
+abbrev pub paused_at : ℕ
+paused_at = 9
+
+abbrev pub kept_at : ℕ
+kept_at = 10
+
+abbrev pub filled_at : ℕ
+filled_at = 11
+
+-- the cursor: every earlier hour is told, and of this hour what is in earlier slots
 abbrev pub cursor_hour_at : ℕ
-cursor_hour_at = 6
+cursor_hour_at = 12
 
-abbrev pub cursor_cell_at : ℕ
-cursor_cell_at = 7
+abbrev pub cursor_slot_at : ℕ
+cursor_slot_at = 13
 
+-- the mail, a cell for each machine: its last statement, by number, with its hour and the next; its last H; whether something is due to it; whether it is to be
+-- told that this one woke
+abbrev pub word_at : ℕ
+word_at = 14
+
+abbrev pub word_hour_at : ℕ
+word_hour_at = 22
+
+abbrev pub word_next_at : ℕ
+word_next_at = 30
+
+abbrev pub passed_at : ℕ
+passed_at = 38
+
+abbrev pub due_at : ℕ
+due_at = 46
+
+abbrev pub woke_at : ℕ
+woke_at = 54
+
+-- the tables of the hour at hand: the sums, then the counts, page by page
 abbrev pub sums_at : ℕ
-sums_at = 8
+sums_at = 62
 
 abbrev pub counts_at : ℕ
-counts_at = 1032
+counts_at = 1086
+
+-- the pages of the last statements: the sums, then the counts, machine by machine
+abbrev pub word_sums_at : ℕ
+word_sums_at = 2110
+
+abbrev pub word_counts_at : ℕ
+word_counts_at = 3134
 
 abbrev pub cells : ℕ
-cells = 2056
+cells = 4158
 
--- what the machine did last, by the numbers of the phases
-abbrev pub phase_in : List ℕ → ℕ
-phase_in m = slice_index m phase_at
+-- no next hour
+abbrev pub no_next : ℕ
+no_next = 18446744073709551615
 
--- the page that is being read or written
-abbrev pub index_in : List ℕ → ℕ
-index_in m = slice_index m index_at
+-- numbers of the memory are below this
+abbrev pub limit : ℕ
+limit = 18446744073709551616
 
--- whether an hour is at hand: 0 or 1
-abbrev pub begun_in : List ℕ → ℕ
-begun_in m = slice_index m begun_at
+-- WHAT A CELL HAS
+abbrev pub at : List ℕ → ℕ → ℕ
+at m c = slice_index m c
 
-abbrev pub hour_in : List ℕ → ℕ
-hour_in m = slice_index m hour_at
+-- so many numbers side by side
+unfoldable pub row_in : List ℕ → (from count : ℕ) → List ℕ
+row_in m a n = take n (drop a m)
 
--- how many readings of the row are in the tables or told
-abbrev pub pos_in : List ℕ → ℕ
-pos_in m = slice_index m pos_at
+-- a page's part of the tables, and that of a machine's statement
+abbrev pub page_sums_in : List ℕ → (page : ℕ) → List ℕ
+page_sums_in m p = row_in m (sums_at + slots * p) slots
 
--- the page set that the root record names: 0 none, 1, 2
-abbrev pub set_in : List ℕ → ℕ
-set_in m = slice_index m set_at
+abbrev pub page_counts_in : List ℕ → (page : ℕ) → List ℕ
+page_counts_in m p = row_in m (counts_at + slots * p) slots
 
--- the cursor: everything of earlier hours is told, and of this hour what is in earlier cells
-abbrev pub cursor_hour_in : List ℕ → ℕ
-cursor_hour_in m = slice_index m cursor_hour_at
-
-abbrev pub cursor_cell_in : List ℕ → ℕ
-cursor_cell_in m = slice_index m cursor_cell_at
-
-unfoldable pub sums_in : List ℕ → List ℕ
-sums_in m = take places (drop sums_at m)
-
-unfoldable pub counts_in : List ℕ → List ℕ
-counts_in m = take places (drop counts_at m)
-
--- a page's part of the tables
-unfoldable pub page_sums_in : List ℕ → ℕ → List ℕ
-page_sums_in m p = take slots (drop (sums_at + slots * p) m)
-
-unfoldable pub page_counts_in : List ℕ → ℕ → List ℕ
-page_counts_in m p = take slots (drop (counts_at + slots * p) m)
-
--- PHASES: what the machine did last, and so what it is told next
+-- PHASES, by their numbers
 abbrev pub asleep : ℕ
 asleep = 0
 
--- it has asked for the root record, for a page of its set, for the cursor
 abbrev pub asks_root : ℕ
 asks_root = 1
 
@@ -93,33 +124,40 @@ asks_page = 2
 abbrev pub asks_cursor : ℕ
 asks_cursor = 3
 
--- the row is read from pos on; what is before pos is released; a reading is asked for
+abbrev pub placing : ℕ
+placing = 4
+
 abbrev pub placed : ℕ
-placed = 4
+placed = 5
 
-abbrev pub released : ℕ
-released = 5
+abbrev pub ready : ℕ
+ready = 6
 
-abbrev pub reading : ℕ
-reading = 6
+abbrev pub noting : ℕ
+noting = 7
 
--- a shadow page is kept; the root record is kept
-abbrev pub saved : ℕ
-saved = 7
+abbrev pub saving : ℕ
+saving = 8
 
-abbrev pub rooted : ℕ
-rooted = 8
+-- STAGES of a reader, by their numbers: any other is that of one that has ended
+abbrev pub begun : ℕ
+begun = 0
 
--- a row is told; its cursor is kept; the cursor is past the hour
-abbrev pub told : ℕ
-told = 9
+abbrev pub whole : ℕ
+whole = 1
 
-abbrev pub noted : ℕ
-noted = 10
+abbrev pub ended : ℕ
+ended = 2
 
-abbrev pub closed : ℕ
-closed = 11
+-- STATEMENTS, by their numbers: any other is none
+abbrev pub says_nothing : ℕ
+says_nothing = 0
 
--- all is told
-abbrev pub done : ℕ
-done = 12
+abbrev pub says_begun : ℕ
+says_begun = 1
+
+abbrev pub says_whole : ℕ
+says_whole = 2
+
+abbrev pub says_ended : ℕ
+says_ended = 3

@@ -11,11 +11,7 @@ use store::Record;
 use sums::pages::{PAGE_BYTES, encode_page};
 
 // A record, into this drawer.
-pub(crate) fn keep_record<const N: usize, R: Record<N>>(
-    entry: R,
-    drawer: u8,
-    out: &mut Buffer,
-) -> Act
+pub fn keep_record<const N: usize, R: Record<N>>(entry: R, drawer: u8, out: &mut Buffer) -> Act
     ensures { Answered (keep drawer (R.bytes_of entry)) result out.old out.new }
 {
     entry.encode(out).unwrap();

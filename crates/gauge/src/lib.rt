@@ -1,17 +1,16 @@
-// One gauge: its readings accumulated, its hours told, its checkpoints.
+// One gauge: its readings taken in, its hours whole, its checkpoints.
 #![tactic(auto)]
 
 pub mod act;
 mod checkpoint;
-mod dispatch;
-mod entry;
 mod keep;
 pub mod memory;
 mod readings;
 mod row;
-mod tell;
 
 pub use act::Act;
-pub use entry::{accumulate, end, fill, go_on};
-pub use memory::{Buffer, Memory, Phase};
-pub use row::place;
+pub use checkpoint::{save_first, save_next};
+pub use keep::keep_record;
+pub use memory::{Buffer, Garbled, Memory, Phase, Stage};
+pub use readings::{end_row, read, tell_all};
+pub use row::{clear_tables, go_on, place, release};

@@ -3,7 +3,7 @@ use crate::options::{Options, Request, UsageError};
 use crate::station::Station;
 use anyhow::anyhow;
 use status::Failure;
-use std::io::BufRead;
+use std::io::{BufRead, Write};
 
 const USAGE: &str = "usage: station MACHINE --drawers DIR --gauge FILE --wall FILE
 
@@ -31,28 +31,35 @@ fn refused(words: &[String], error: UsageError) -> Failure {
     }
 }
 
-// Does what these words ask for; the lines are those of the wires.
-pub fn run<B: BufRead + Drop>(
+// Does what these words ask for; the lines that come are those of the wires, and what goes out is written, a line at once.
+pub fn run<B: BufRead + Drop, W: Write>(
     rt: &HostRuntime,
     words: Vec<String>,
     wires: B,
+    out: &mut W,
 ) -> Result<(), Failure> {
     let given = words.clone()?;
     match Request::read(words).map_err(|error| refused(given.as_slice(), error))? {
         Request::Help => {
-            println!(rt; "{USAGE}")?;
+            writeln!(out, "{USAGE}")?;
             Ok(())
         }
-        Request::Run(options) => serve(rt, &options, wires),
+        Request::Run(options) => serve(rt, &options, wires, out),
     }
 }
 
-fn serve<B: BufRead + Drop>(rt: &HostRuntime, options: &Options, wires: B) -> Result<(), Failure> {
+fn serve<B: BufRead + Drop, W: Write>(
+    rt: &HostRuntime,
+    options: &Options,
+    wires: B,
+    out: &mut W,
+) -> Result<(), Failure> {
     let mut station = Station::open(rt, options)?;
-    station.work(rt, u64::MAX)?;
+    station.work(rt, out, u64::MAX)?;
     for line in wires.split(rt.alloc(), b'\n') {
         let line = line.map_err(Failure::refused)?;
-        station.hear(rt, line.as_slice())?;
+        station.hear(rt, out, line.as_slice())?;
+        station.work(rt, out, u64::MAX)?;
     }
     Ok(())
 }

@@ -8,6 +8,7 @@ use crate::wall::{Wall, folder_of};
 use anyhow::{anyhow, ensure};
 use hut::{Desk, Effect, Hut, Pending};
 use status::Failure;
+use std::io::Write;
 use std::path::Path;
 use sums::Reading;
 
@@ -19,6 +20,8 @@ pub struct Station {
     desk: Desk,
     disk: Disk,
     wall: Wall,
+    // Whether it has asked for its readings, as it does when it has booted.
+    booted: bool,
     // Lines that came over the wires.
     lines: u64,
 }
@@ -79,12 +82,18 @@ impl Station {
             desk,
             disk,
             wall,
+            booted: false,
             lines: 0,
         })
     }
 
-    // So many turns at most, till the machine rests; whether it does. With drawers that belong together it rests only where all is released.
-    pub fn work(&mut self, rt: &HostRuntime, turns: u64) -> Result<bool, Failure> {
+    // So many turns at most, till the machine rests; whether it does. Letters that it sends are written out, a line each. Where its drawers do not belong together it rests in the midst of booting.
+    pub fn work<W: Write>(
+        &mut self,
+        rt: &HostRuntime,
+        out: &mut W,
+        turns: u64,
+    ) -> Result<bool, Failure> {
         let heap = rt.alloc();
         for _ in 0..turns {
             let row = self.row.as_slice();
@@ -92,26 +101,33 @@ impl Station {
             let Some(effect) = turned else {
                 break;
             };
-            self.carry_out(rt, effect)?;
+            self.carry_out(rt, out, effect)?;
         }
         let rests = self.hut.rests();
-        if rests && self.hut.gone < self.row.len() as u64 {
+        if rests && !self.booted {
             return Err(Failure::Wrong(anyhow!(
-                "the machine rests, and its row is not released: its drawers do not belong together"
+                "the machine cannot boot: its drawers do not belong together"
             )));
         }
         Ok(rests)
     }
 
     // Makes an act last.
-    fn carry_out(&mut self, rt: &HostRuntime, effect: Effect) -> Result<(), Failure> {
+    fn carry_out<W: Write>(
+        &mut self,
+        rt: &HostRuntime,
+        out: &mut W,
+        effect: Effect,
+    ) -> Result<(), Failure> {
+        self.booted |= matches!(effect, Effect::Sought(_));
         let done = match effect {
             Effect::Kept(drawer) => self.disk.keep(rt, drawer, self.hut.drawer(drawer)),
             Effect::Released(place) => self.disk.release(rt, place),
             Effect::Told(row) => self.wall.tell(rt, row),
             Effect::Sent(reader, text) => {
                 let line = wire::send(rt.alloc(), reader, text.text.as_slice())?;
-                return Ok(println!(rt; "{line}")?);
+                writeln!(out, "{line}")?;
+                return Ok(out.flush()?);
             }
             Effect::Fault => Err(anyhow!("the machine did what there is not")),
             _ => Ok(()),
@@ -119,18 +135,22 @@ impl Station {
         done.map_err(Failure::wrong)
     }
 
-    // Tells the machine what a line of its wires says, once it rests, and lets it work.
-    pub fn hear(&mut self, rt: &HostRuntime, line: &[u8]) -> Result<(), Failure> {
+    // Tells the machine what a line of its wires says, once it rests; what it does then is to be asked of `work`.
+    pub fn hear<W: Write>(
+        &mut self,
+        rt: &HostRuntime,
+        out: &mut W,
+        line: &[u8],
+    ) -> Result<(), Failure> {
         self.lines = self.lines.saturating_add(1);
         let number = self.lines;
         let heard = event(rt, line).map_err(|error| Failure::Refused(anyhow!(
             "wires, line {number}: {error}"
         )))?;
         if let Some(event) = heard {
-            self.work(rt, u64::MAX)?;
+            self.work(rt, out, u64::MAX)?;
             self.hut.hear(event);
         }
-        self.work(rt, u64::MAX)?;
         Ok(())
     }
 }

@@ -81,9 +81,26 @@ fn sync_folder(rt: &HostRuntime, path: &str) -> io::Result<()> {
     File::open(rt, folder_of(path))?.sync_all()
 }
 
+// Puts a line behind all that there is, while no other station changes the wall.
 fn append(file: &mut File, line: &[u8]) -> io::Result<()> {
-    file.write_all(line)?;
-    file.sync_all()
+    file.lock()?;
+    let written = file.write_all(line);
+    let synced = written.and_then(|()| file.sync_all());
+    file.unlock()?;
+    synced
+}
+
+// Looks at the wall's end, and cuts off what is no whole line.
+fn settle(rt: &HostRuntime, file: &mut File, path: &str) -> Result<(), Failure> {
+    let tail = read_tail(rt, file).map_err(|error| Failure::Refused(anyhow!(
+        "the wall {path} cannot be read: {error}"
+    )))?;
+    let end = end_of_rows(rt, &tail).map_err(|mistake| Failure::Refused(anyhow!(
+        "{path} is no wall: {mistake}"
+    )))?;
+    cut(rt, file, path, end).map_err(|error| Failure::Wrong(anyhow!(
+        "the wall {path} cannot be written: {error}"
+    )))
 }
 
 impl Wall {
@@ -97,14 +114,13 @@ impl Wall {
             .map_err(|error| Failure::Refused(anyhow!(
                 "the wall {path} cannot be opened: {error}"
             )))?;
-        let tail = read_tail(rt, &mut file).map_err(|error| Failure::Refused(anyhow!(
-            "the wall {path} cannot be read: {error}"
+        // Other stations put their rows on the same wall: none does between the look at its end and the cut.
+        file.lock().map_err(|error| Failure::Wrong(anyhow!(
+            "the wall {path} cannot be locked: {error}"
         )))?;
-        let end = end_of_rows(rt, &tail).map_err(|mistake| Failure::Refused(anyhow!(
-            "{path} is no wall: {mistake}"
-        )))?;
-        cut(rt, &file, path, end).map_err(|error| Failure::Wrong(anyhow!(
-            "the wall {path} cannot be written: {error}"
+        settle(rt, &mut file, path)?;
+        file.unlock().map_err(|error| Failure::Wrong(anyhow!(
+            "the wall {path} cannot be unlocked: {error}"
         )))?;
         Ok(Wall {
             path: format!(in rt.alloc(); "{path}")?,

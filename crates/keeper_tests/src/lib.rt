@@ -2,37 +2,45 @@
 #![tactic(auto)]
 
 #[cfg(test)]
+mod crew;
+
+#[cfg(test)]
 mod tests {
+    use crate::crew::{Crew, make_folder, options};
     use keeper::{Options, Request, Station};
     use std::fs;
     use std::os::unix::fs::symlink;
     use std::test::Fail;
 
-    const RIVER: &str = "gauge 0\n10 1 4\n50 2 0\n130 1 7\n170 1 5\n390 1023 4294967295\n";
+    // Two gauges that read; rows are told by machines 1, 2 and 7.
+    const RIVER: &str = "gauge 0
+10 1 4
+50 2 0
+130 1 7
+170 1 5
+390 1023 4294967295
+gauge 3
+20 1 3
+140 2 1
+";
 
-    // A station's files in a folder of their own, without what an earlier run left there.
-    fn options(rt: &HostRuntime, name: &str) -> Result<Options, Fail> {
-        let heap = rt.alloc();
-        if fs::exists(rt, name)? {
-            fs::remove_dir_all(rt, name)?;
-        }
-        fs::create_dir(rt, name)?;
-        let gauge = format!(in heap; "{name}/gauge")?;
-        fs::write(rt, gauge.as_str(), RIVER)?;
-        let drawers = format!(in heap; "{name}/drawers")?;
-        fs::create_dir(rt, drawers.as_str())?;
-        Ok(Options {
-            machine: 0,
-            drawers,
-            gauge,
-            wall: format!(in heap; "{name}/wall")?,
-        })
+    // Eight stations in a folder of their own.
+    fn crew(rt: &HostRuntime, name: &str) -> Result<Crew, Fail> {
+        make_folder(rt, name, RIVER)?;
+        Ok(Crew::open(rt, name)?)
+    }
+
+    // The files of the first of eight stations.
+    fn alone(rt: &HostRuntime, name: &str) -> Result<Options, Fail> {
+        make_folder(rt, name, RIVER)?;
+        Ok(options(rt, name, 0)?)
     }
 
     // Opens a station and lets it do so many turns; then it is gone, as if it were killed.
     fn turns(rt: &HostRuntime, options: &Options, turns: u64) -> Result<bool, Fail> {
         let mut station = Station::open(rt, options)?;
-        Ok(station.work(rt, turns)?)
+        let mut out = Vec::new(rt.alloc());
+        Ok(station.work(rt, &mut out, turns)?)
     }
 
     // A file as the station writes it, below its checksum.
@@ -48,9 +56,9 @@ mod tests {
     }
 
     // How many rows of the wall are told again; none is wrong, and none of the river's sums is missing.
-    fn repeated(rt: &HostRuntime, options: &Options) -> Result<usize, Fail> {
+    fn repeated(rt: &HostRuntime, name: &str) -> Result<usize, Fail> {
         let heap = rt.alloc();
-        let text = fs::read_to_string(rt, options.wall.as_str())?;
+        let text = fs::read_to_string(rt, format!(in heap; "{name}/wall")?.as_str())?;
         let rows = wall_reader::read(heap, text.as_str())?;
         let river = river::parse(heap, RIVER)?;
         let comparison = rows::compare(heap, river.gauges.as_slice(), rows.as_slice())?;
@@ -74,48 +82,50 @@ mod tests {
 
     #[test]
     fn calm(rt: HostRuntime) -> Result<(), Fail> {
-        let options = options(&rt, "calm")?;
-        assert!(rt; !turns(&rt, &options, 3)?);
-        assert!(rt; turns(&rt, &options, 1000)?);
-        assert_eq!(rt; repeated(&rt, &options)?, 0);
+        let mut crew = crew(&rt, "calm")?;
+        assert!(rt; !crew.work(&rt, 0, 3)?);
+        crew.calm(&rt)?;
+        assert_eq!(rt; repeated(&rt, "calm")?, 0);
         // all is told, so nothing more is
-        assert!(rt; turns(&rt, &options, 1000)?);
-        assert_eq!(rt; repeated(&rt, &options)?, 0);
+        for i in 0..8 {
+            crew.let_go(&rt, i)?;
+        }
+        crew.calm(&rt)?;
+        assert_eq!(rt; repeated(&rt, "calm")?, 0);
         Ok(())
     }
 
+    // One that reads, one that tells, and one that does both.
     #[test]
     fn let_go_after_every_number_of_turns(rt: HostRuntime) -> Result<(), Fail> {
-        for n in 0..48 {
-            let name = format!(in rt.alloc(); "let-go-{n}")?;
-            let options = options(&rt, name.as_str())?;
-            let _rests = turns(&rt, &options, n)?;
-            assert!(rt; turns(&rt, &options, 1000)?);
-            assert!(rt; repeated(&rt, &options)? <= 1);
+        for n in [0, 2, 3, 9, 12, 17, 22, 27, 34, 41] {
+            let mut crew = crew(&rt, "let-go")?;
+            crew.strike(&rt, n % 4, n as u64)?;
+            crew.calm(&rt)?;
+            assert!(rt; repeated(&rt, "let-go")? <= 1);
         }
         Ok(())
     }
 
     #[test]
     fn let_go_again_and_again(rt: HostRuntime) -> Result<(), Fail> {
-        let options = options(&rt, "again")?;
-        for n in 0..48 {
-            let _rests = turns(&rt, &options, n % 13)?;
+        let mut crew = crew(&rt, "again")?;
+        for n in 0..96 {
+            crew.strike(&rt, n % 8, (n % 13 * 5) as u64)?;
         }
-        assert!(rt; turns(&rt, &options, 1000)?);
-        let _repeated = repeated(&rt, &options)?;
+        crew.calm(&rt)?;
+        let _repeated = repeated(&rt, "again")?;
         Ok(())
     }
 
-    // A drawer that cannot be written, since what is written beside it is a folder: what a station says of it.
-    fn stuck(rt: &HostRuntime, options: &Options, drawer: u64) -> Result<String, Fail> {
+    // A drawer that cannot be written, since what is written beside it is a folder: what its station says of it.
+    fn stuck(rt: &HostRuntime, name: &str, i: usize, drawer: u64) -> Result<String, Fail> {
         let heap = rt.alloc();
-        let drawers = options.drawers.as_str();
-        let beside = format!(in heap; "{drawers}/drawer-{drawer}.new")?;
+        let mut crew = crew(rt, name)?;
+        let beside = format!(in heap; "{name}/{i}/drawer-{drawer}.new")?;
         fs::create_dir(rt, beside.as_str())?;
-        let mut station = Station::open(rt, options)?;
-        match station.work(rt, 1000) {
-            Ok(_) => Err(Fail::new("the drawer is written")),
+        match crew.calm(rt) {
+            Ok(()) => Err(Fail::new("the drawer is written")),
             Err(error) => Ok(format!(in heap; "{error}")?),
         }
     }
@@ -123,29 +133,31 @@ mod tests {
     // The cursor is in drawer 2.
     #[test]
     fn a_row_is_on_the_wall_before_its_cursor_is_kept(rt: HostRuntime) -> Result<(), Fail> {
-        let options = options(&rt, "row-first")?;
         assert!(rt;
-            stuck(&rt, &options, 2)?
+            stuck(&rt, "row-first", 1, 2)?
                 .as_str()
-                .starts_with("row-first/drawers/drawer-2 cannot be written")
+                .starts_with("row-first/1/drawer-2 cannot be written")
         );
-        assert!(rt;
-            fs::read_to_string(&rt, options.wall.as_str())?.as_str() == "hour 0 place 1: 4\n"
+        let wall = fs::read_to_string(&rt, "row-first/wall")?;
+        assert_eq!(rt;
+            wall.lines()
+                .filter(|row| *row == "hour 0 place 1: 7")
+                .count(),
+            1
         );
+        assert!(rt; wall.lines().all(|row| row != "hour 1 place 1: 12"));
         Ok(())
     }
 
     // The root is in drawer 0.
     #[test]
     fn nothing_is_released_before_its_root_is_kept(rt: HostRuntime) -> Result<(), Fail> {
-        let options = options(&rt, "root-first")?;
         assert!(rt;
-            stuck(&rt, &options, 0)?
+            stuck(&rt, "root-first", 0, 0)?
                 .as_str()
-                .starts_with("root-first/drawers/drawer-0 cannot be written")
+                .starts_with("root-first/0/drawer-0 cannot be written")
         );
-        assert!(rt; fs::exists(&rt, "root-first/drawers/drawer-2")?);
-        assert!(rt; holds(&rt, "root-first/drawers/released", b"0\n")?);
+        assert!(rt; holds(&rt, "root-first/0/released", b"0\n")?);
         Ok(())
     }
 
@@ -161,8 +173,7 @@ hour 0 place 7: 8208
 ";
 
     // An hour that fills the roll twice: 1,026 readings at each of 8 places, whose sums are on 8 different pages. A reading at place P is P + 1.
-    fn long_options(rt: &HostRuntime, name: &str) -> Result<Options, Fail> {
-        let options = options(rt, name)?;
+    fn make_long_folder(rt: &HostRuntime, name: &str) -> Result<(), Fail> {
         let mut river = String::new(rt.alloc());
         writeln!(river, "gauge 0")?;
         for _ in 0..1026 {
@@ -170,88 +181,94 @@ hour 0 place 7: 8208
                 writeln!(river, "0 {place} {}", place + 1)?;
             }
         }
-        fs::write(rt, options.gauge.as_str(), river.as_str())?;
-        Ok(options)
+        Ok(make_folder(rt, name, river.as_str())?)
     }
 
     // Turns 4,102 to 4,109 keep the pages, 4,110 keeps the root, and 4,112 releases the first 4,096 readings. Behind this root
     // boot reads its pages too: turns 4,110 to 4,117 keep those of the other set, and 4,118 the next root.
     #[test]
     fn let_go_while_checkpoints_are_kept(rt: HostRuntime) -> Result<(), Fail> {
-        let options = long_options(&rt, "checkpoints")?;
+        make_long_folder(&rt, "checkpoints")?;
+        let first = options(&rt, "checkpoints", 0)?;
         for n in [4102, 4106, 4109, 4110, 4109, 4114, 4117, 4118] {
-            assert!(rt; !turns(&rt, &options, n)?);
-            assert!(rt; fs::read_to_string(&rt, options.wall.as_str())?.is_empty());
+            assert!(rt; !turns(&rt, &first, n)?);
         }
-        assert!(rt; turns(&rt, &options, 10_000)?);
-        assert!(rt; fs::read_to_string(&rt, options.wall.as_str())?.as_str() == LONG_WALL);
+        assert!(rt; fs::exists(&rt, "checkpoints/0/drawer-0")?);
+        assert!(rt; fs::read_to_string(&rt, "checkpoints/wall")?.is_empty());
+        Crew::open(&rt, "checkpoints")?.calm(&rt)?;
+        let wall = fs::read_to_string(&rt, "checkpoints/wall")?;
+        for row in LONG_WALL.lines() {
+            assert_eq!(rt; wall.lines().filter(|told| *told == row).count(), 1);
+        }
+        assert_eq!(rt; wall.lines().count(), 8);
         Ok(())
     }
 
     // After a checkpoint.
     #[test]
     fn a_page_that_was_cut(rt: HostRuntime) -> Result<(), Fail> {
-        let options = long_options(&rt, "cut")?;
-        assert!(rt; !turns(&rt, &options, 4112)?);
-        assert!(rt; holds(&rt, "cut/drawers/released", b"4096\n")?);
-        put(&rt, "cut/drawers/drawer-10", b"cut")?;
-        let mut station = Station::open(&rt, &options)?;
-        let Err(error) = station.work(&rt, 10_000) else {
+        make_long_folder(&rt, "cut")?;
+        let first = options(&rt, "cut", 0)?;
+        assert!(rt; !turns(&rt, &first, 4112)?);
+        assert!(rt; holds(&rt, "cut/0/released", b"4096\n")?);
+        put(&rt, "cut/0/drawer-10", b"cut")?;
+        let mut crew = Crew::open(&rt, "cut")?;
+        let Err(error) = crew.work(&rt, 0, 10_000) else {
             return Err(Fail::new("it works on a page that was cut"));
         };
         let said = format!(in rt.alloc(); "{error}")?;
-        assert!(rt;
-            said.as_str()
-                == "the machine rests, and its row is not released: its drawers do not belong together"
-        );
-        assert!(rt; fs::read_to_string(&rt, options.wall.as_str())?.is_empty());
+        assert!(rt; said.as_str() == "the machine cannot boot: its drawers do not belong together");
+        assert!(rt; fs::read_to_string(&rt, "cut/wall")?.is_empty());
         Ok(())
     }
 
-    // Each machine reads its own gauge, and only the first has readings.
+    // One alone tells nothing, and eight do not where nothing is read.
     #[test]
     fn a_quiet_gauge(rt: HostRuntime) -> Result<(), Fail> {
-        let mut options = options(&rt, "quiet")?;
-        options.machine = 3;
-        assert!(rt; turns(&rt, &options, 1000)?);
-        assert!(rt; fs::read_to_string(&rt, options.wall.as_str())?.is_empty());
+        make_folder(&rt, "quiet", RIVER)?;
+        let third = options(&rt, "quiet", 2)?;
+        assert!(rt; turns(&rt, &third, 1000)?);
+        assert!(rt; fs::read_to_string(&rt, "quiet/wall")?.is_empty());
+        make_folder(&rt, "quiet", "gauge 3\n")?;
+        Crew::open(&rt, "quiet")?.calm(&rt)?;
+        assert!(rt; fs::read_to_string(&rt, "quiet/wall")?.is_empty());
         Ok(())
     }
 
     #[test]
     fn an_unfinished_row_is_cut_off(rt: HostRuntime) -> Result<(), Fail> {
-        let options = options(&rt, "torn")?;
-        fs::write(&rt, options.wall.as_str(), "hour 0 place 1: 4\nhour 0 pla")?;
-        assert!(rt; turns(&rt, &options, 1000)?);
-        assert_eq!(rt; repeated(&rt, &options)?, 1);
+        make_folder(&rt, "torn", RIVER)?;
+        fs::write(&rt, "torn/wall", "hour 0 place 1: 7\nhour 0 pla")?;
+        Crew::open(&rt, "torn")?.calm(&rt)?;
+        assert_eq!(rt; repeated(&rt, "torn")?, 1);
         Ok(())
     }
 
     #[test]
     fn files_that_are_no_good(rt: HostRuntime) -> Result<(), Fail> {
         let heap = rt.alloc();
-        let mut options = options(&rt, "bad")?;
-        put(&rt, "bad/drawers/released", b"6\n")?;
+        let mut options = alone(&rt, "bad")?;
+        put(&rt, "bad/0/released", b"6\n")?;
         assert!(rt;
             refusal(&rt, &options)?.as_str()
                 == "6 readings are released, and the gauge's file has only 5"
         );
         for text in ["two\n", "2 3\n", "2\n3\n", ""] {
-            put(&rt, "bad/drawers/released", text.as_bytes())?;
+            put(&rt, "bad/0/released", text.as_bytes())?;
             assert!(rt;
-                refusal(&rt, &options)?.as_str() == "bad/drawers/released does not hold one number"
+                refusal(&rt, &options)?.as_str() == "bad/0/released does not hold one number"
             );
         }
-        fs::remove_file(&rt, "bad/drawers/released")?;
+        fs::remove_file(&rt, "bad/0/released")?;
         let long = vec![in heap; 0u8; 4097]?;
-        put(&rt, "bad/drawers/drawer-255", long.as_slice())?;
+        put(&rt, "bad/0/drawer-255", long.as_slice())?;
         assert!(rt;
             refusal(&rt, &options)?.as_str()
-                == "bad/drawers/drawer-255 is no drawer: it has more than 4096 bytes"
+                == "bad/0/drawer-255 is no drawer: it has more than 4096 bytes"
         );
-        fs::remove_file(&rt, "bad/drawers/drawer-255")?;
-        fs::create_dir(&rt, "bad/drawers/drawer-0")?;
-        assert!(rt; refusal(&rt, &options)?.as_str() == "bad/drawers/drawer-0 is no plain file");
+        fs::remove_file(&rt, "bad/0/drawer-255")?;
+        fs::create_dir(&rt, "bad/0/drawer-0")?;
+        assert!(rt; refusal(&rt, &options)?.as_str() == "bad/0/drawer-0 is no plain file");
         options.drawers = format!(in heap; "bad/none")?;
         assert!(rt;
             refusal(&rt, &options)?.as_str() == "there is no folder bad/none for the drawers"
@@ -278,42 +295,43 @@ hour 0 place 7: 8208
     // A root record with one wrong number is of the right length: without its checksum a machine would go by it.
     #[test]
     fn files_that_are_damaged(rt: HostRuntime) -> Result<(), Fail> {
-        let options = options(&rt, "damaged")?;
-        assert!(rt; turns(&rt, &options, 1000)?);
+        crew(&rt, "damaged")?.calm(&rt)?;
+        let options = options(&rt, "damaged", 0)?;
         let text = fs::read_to_string(&rt, "damaged/wall")?;
         for at in [0, 63, 65, 66, 72, 80] {
             assert!(rt;
-                damaged(&rt, &options, "damaged/drawers/drawer-0", at)?.as_str()
-                    == "damaged/drawers/drawer-0 is damaged: its checksum does not fit"
+                damaged(&rt, &options, "damaged/0/drawer-0", at)?.as_str()
+                    == "damaged/0/drawer-0 is damaged: its checksum does not fit"
             );
         }
         for at in [0, 65, 66] {
             assert!(rt;
-                damaged(&rt, &options, "damaged/drawers/released", at)?.as_str()
-                    == "damaged/drawers/released is damaged: its checksum does not fit"
+                damaged(&rt, &options, "damaged/0/released", at)?.as_str()
+                    == "damaged/0/released is damaged: its checksum does not fit"
             );
         }
         assert!(rt; fs::read_to_string(&rt, "damaged/wall")?.as_str() == text.as_str());
         assert!(rt; turns(&rt, &options, 1000)?);
+        assert_eq!(rt; repeated(&rt, "damaged")?, 0);
         Ok(())
     }
 
     // As an older station wrote them, and as a disk leaves a file of which nothing was written.
     #[test]
     fn files_without_a_checksum(rt: HostRuntime) -> Result<(), Fail> {
-        let options = options(&rt, "old")?;
+        let options = alone(&rt, "old")?;
         for text in ["0\n", ""] {
-            fs::write(&rt, "old/drawers/released", text)?;
+            fs::write(&rt, "old/0/released", text)?;
             assert!(rt;
                 refusal(&rt, &options)?.as_str()
-                    == "old/drawers/released has no checksum; if it is an older station's, use an empty folder"
+                    == "old/0/released has no checksum; if it is an older station's, use an empty folder"
             );
         }
-        fs::remove_file(&rt, "old/drawers/released")?;
-        fs::write(&rt, "old/drawers/drawer-7", "a page")?;
+        fs::remove_file(&rt, "old/0/released")?;
+        fs::write(&rt, "old/0/drawer-7", "a page")?;
         assert!(rt;
             refusal(&rt, &options)?.as_str()
-                == "old/drawers/drawer-7 has no checksum; if it is an older station's, use an empty folder"
+                == "old/0/drawer-7 has no checksum; if it is an older station's, use an empty folder"
         );
         Ok(())
     }
@@ -321,47 +339,42 @@ hour 0 place 7: 8208
     // What is left beside a file is never read, and is written over.
     #[test]
     fn writes_that_were_cut_short(rt: HostRuntime) -> Result<(), Fail> {
-        let options = options(&rt, "beside")?;
-        assert!(rt; !turns(&rt, &options, 12)?);
-        fs::write(&rt, "beside/drawers/drawer-0.new", "garbage")?;
-        fs::write(&rt, "beside/drawers/released.new", "7\n")?;
-        assert!(rt; turns(&rt, &options, 1000)?);
-        assert!(rt; repeated(&rt, &options)? <= 1);
-        assert!(rt; holds(&rt, "beside/drawers/released", b"5\n")?);
+        let mut crew = crew(&rt, "beside")?;
+        crew.strike(&rt, 0, 12)?;
+        fs::write(&rt, "beside/0/drawer-0.new", "garbage")?;
+        fs::write(&rt, "beside/0/released.new", "7\n")?;
+        crew.calm(&rt)?;
+        assert_eq!(rt; repeated(&rt, "beside")?, 0);
+        assert!(rt; holds(&rt, "beside/0/released", b"5\n")?);
         Ok(())
     }
 
     #[test]
     fn two_stations_on_one_folder(rt: HostRuntime) -> Result<(), Fail> {
-        let options = options(&rt, "two")?;
-        let mut first = Station::open(&rt, &options)?;
-        assert!(rt; !first.work(&rt, 3)?);
-        assert!(rt; refusal(&rt, &options)?.as_str() == "another station runs on two/drawers");
-        assert!(rt; first.work(&rt, 1000)?);
-        assert_eq!(rt; repeated(&rt, &options)?, 0);
-        drop(first);
-        assert!(rt; turns(&rt, &options, 1000)?);
+        let mut crew = crew(&rt, "two")?;
+        let first = options(&rt, "two", 0)?;
+        assert!(rt; !crew.work(&rt, 0, 3)?);
+        assert!(rt; refusal(&rt, &first)?.as_str() == "another station runs on two/0");
+        crew.calm(&rt)?;
+        assert_eq!(rt; repeated(&rt, "two")?, 0);
+        drop(crew);
+        assert!(rt; turns(&rt, &first, 1000)?);
         Ok(())
     }
 
     #[test]
     fn gauges_and_walls_that_are_no_good(rt: HostRuntime) -> Result<(), Fail> {
         let heap = rt.alloc();
-        let mut options = options(&rt, "worse")?;
+        let mut options = alone(&rt, "worse")?;
         fs::write(&rt, "worse/gauge", "gauge 0\n10 1\n")?;
         assert!(rt; refusal(&rt, &options)?.as_str() == "worse/gauge, line 2: a number is missing");
-        fs::write(&rt, "worse/gauge", "gauge 3\n10 1 1\n")?;
-        assert!(rt;
-            refusal(&rt, &options)?.as_str()
-                == "worse/gauge: gauge 3 has readings, and only those of gauge 0 are added up so far"
-        );
         options.gauge = format!(in heap; "worse/none")?;
         assert!(rt;
             refusal(&rt, &options)?
                 .as_str()
                 .starts_with("the gauge's file worse/none cannot be read")
         );
-        for path in ["/dev/zero", "/dev/null", "worse/drawers"] {
+        for path in ["/dev/zero", "/dev/null", "worse/0"] {
             let said = format!(in heap; "{path} is no plain file")?;
             options.gauge = format!(in heap; "{path}")?;
             assert!(rt; refusal(&rt, &options)?.as_str() == said.as_str());
@@ -381,13 +394,13 @@ hour 0 place 7: 8208
     #[test]
     fn two_names_of_one_file(rt: HostRuntime) -> Result<(), Fail> {
         let heap = rt.alloc();
-        let mut options = options(&rt, "names")?;
-        assert!(rt; turns(&rt, &options, 1000)?);
+        crew(&rt, "names")?.calm(&rt)?;
+        let mut options = options(&rt, "names", 0)?;
         fs::hard_link(&rt, "names/gauge", "names/hard")?;
         symlink(&rt, "gauge", "names/soft")?;
         for path in [
             "names/gauge",
-            "names/drawers/../gauge",
+            "names/0/../gauge",
             "names/hard",
             "names/soft",
         ] {
@@ -397,18 +410,16 @@ hour 0 place 7: 8208
             options.wall = format!(in heap; "{path}")?;
             assert!(rt; refusal(&rt, &options)?.as_str() == said.as_str());
         }
-        fs::hard_link(&rt, "names/drawers/drawer-2", "names/drawer")?;
+        fs::hard_link(&rt, "names/0/drawer-0", "names/drawer")?;
         for path in [
-            "names/drawers/drawer-2",
-            "names/drawers/drawer-9",
-            "names/drawers/drawer-9.new",
-            "names/drawers/released",
-            "names/drawers/lock",
+            "names/0/drawer-2",
+            "names/0/drawer-9",
+            "names/0/drawer-9.new",
+            "names/0/released",
+            "names/0/lock",
             "names/drawer",
         ] {
-            let said = format!(in heap;
-                "{path} is one of the station's own files in names/drawers"
-            )?;
+            let said = format!(in heap; "{path} is one of the station's own files in names/0")?;
             options.wall = format!(in heap; "{path}")?;
             assert!(rt; refusal(&rt, &options)?.as_str() == said.as_str());
         }
@@ -428,7 +439,7 @@ hour 0 place 7: 8208
 
     #[test]
     fn walls_that_are_none(rt: HostRuntime) -> Result<(), Fail> {
-        let options = options(&rt, "garbage")?;
+        let options = alone(&rt, "garbage")?;
         for (text, said) in [
             (
                 RIVER,
@@ -460,10 +471,10 @@ hour 0 place 7: 8208
             let Some(front) = row.get(..at) else {
                 return Err(Fail::new("the row is shorter"));
             };
-            let options = options(&rt, "cut-row")?;
+            let options = alone(&rt, "cut-row")?;
             fs::write(&rt, options.wall.as_str(), front)?;
             assert!(rt; turns(&rt, &options, 1000)?);
-            assert_eq!(rt; repeated(&rt, &options)?, 0);
+            assert!(rt; fs::read_to_string(&rt, options.wall.as_str())?.is_empty());
         }
         Ok(())
     }
@@ -471,7 +482,7 @@ hour 0 place 7: 8208
     // Of a long wall the last 65,536 bytes are read: what stands before them is not.
     #[test]
     fn a_long_wall(rt: HostRuntime) -> Result<(), Fail> {
-        let options = options(&rt, "tail")?;
+        let options = alone(&rt, "tail")?;
         let mut wall = String::new(rt.alloc());
         for hour in 4..6000 {
             writeln!(wall, "hour {hour} place 2: 3")?;
@@ -493,13 +504,14 @@ hour 0 place 7: 8208
     // What a station says of the first line of its wires; nothing where it hears it.
     fn heard(rt: &HostRuntime, options: &Options, line: &str) -> Result<String, Fail> {
         let mut station = Station::open(rt, options)?;
-        match station.hear(rt, line.as_bytes()) {
+        let mut out = Vec::new(rt.alloc());
+        match station.hear(rt, &mut out, line.as_bytes()) {
             Ok(()) => Ok(String::new(rt.alloc())),
             Err(error) => Ok(format!(in rt.alloc(); "{error}")?),
         }
     }
 
-    // Whatever it hears, it works till all is told.
+    // Whatever it hears, all is told then.
     #[test]
     fn lines_that_are_heard(rt: HostRuntime) -> Result<(), Fail> {
         for line in [
@@ -510,16 +522,17 @@ hour 0 place 7: 8208
             "from 0",
             "poke # again",
         ] {
-            let options = options(&rt, "heard")?;
-            assert!(rt; heard(&rt, &options, line)?.is_empty());
-            assert_eq!(rt; repeated(&rt, &options)?, 0);
+            let mut crew = crew(&rt, "heard")?;
+            crew.hear(&rt, 1, line)?;
+            crew.calm(&rt)?;
+            assert_eq!(rt; repeated(&rt, "heard")?, 0);
         }
         Ok(())
     }
 
     #[test]
     fn lines_that_are_no_good(rt: HostRuntime) -> Result<(), Fail> {
-        let options = options(&rt, "lines")?;
+        let options = alone(&rt, "lines")?;
         let bad = [
             ("from 8 00", "wires, line 1: there is no such machine"),
             ("from x 00", "wires, line 1: this is not a machine's number"),
@@ -548,7 +561,7 @@ hour 0 place 7: 8208
     #[test]
     fn a_letter_that_is_too_long(rt: HostRuntime) -> Result<(), Fail> {
         let heap = rt.alloc();
-        let options = options(&rt, "long")?;
+        let options = alone(&rt, "long")?;
         let most = vec![in heap; 0u8; 4096]?;
         let fits = text::hex(heap, most.as_slice())?;
         let line = format!(in heap; "from 1 {fits}")?;
@@ -563,16 +576,17 @@ hour 0 place 7: 8208
 
     #[test]
     fn the_number_of_a_line(rt: HostRuntime) -> Result<(), Fail> {
-        let options = options(&rt, "number")?;
+        let options = alone(&rt, "number")?;
         let mut station = Station::open(&rt, &options)?;
-        station.hear(&rt, b"poke")?;
-        station.hear(&rt, b"")?;
-        let Err(error) = station.hear(&rt, b"peek") else {
+        let mut out = Vec::new(rt.alloc());
+        station.hear(&rt, &mut out, b"poke")?;
+        station.hear(&rt, &mut out, b"")?;
+        let Err(error) = station.hear(&rt, &mut out, b"peek") else {
             return Err(Fail::new("this says nothing"));
         };
         let said = format!(in rt.alloc(); "{error}")?;
         assert!(rt; said.as_str() == "wires, line 3: a line is `poke` or begins with `from`");
-        let Err(error) = station.hear(&rt, b"poke # \xff") else {
+        let Err(error) = station.hear(&rt, &mut out, b"poke # \xff") else {
             return Err(Fail::new("this is no text"));
         };
         let said = format!(in rt.alloc(); "{error}")?;

@@ -1,3 +1,5 @@
 pub mod Stepped
+mod Taken
 pub mod Back
+mod Ready
 pub mod Steadies

@@ -2,7 +2,7 @@
 use Rattle.std.proofs.Common.{◌≡◌, ℕ, List, length, replicate, refl, ap, ◌∙◌}
 use lib.ListN.{length-replicate}
 use Rattle.gauge.specs.Memory.{cells}
-use Rattle.gauge.specs.Deeds.{Deed, more, from, let_go, keep, recall, tells, rests, act_for, out_with, Did}
+use Rattle.gauge.specs.Deeds.{Deed, more, from, let_go, sends, keep, recall, tells, rests, act_for, out_with, Did}
 use Rattle.gauge.specs.declared.act.Act.{Act}
 use Rattle.machine.specs.Machine.{reacts, as_act, machine_step}
 use Rattle.machine.specs.Run.{Event}
@@ -13,6 +13,7 @@ unfolding ActTold
 act_told more out = (refl, refl)
 act_told (from x) out = (refl, refl)
 act_told (let_go x) out = (refl, refl)
+act_told (sends j b) out = (refl, refl)
 act_told (keep j b) out = (refl, refl)
 act_told (recall x) out = (refl, refl)
 act_told (tells h k x) out = (refl, refl)

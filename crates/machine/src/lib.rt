@@ -2,17 +2,20 @@
 #![tactic(auto)]
 
 ghost use Rattle.std.specs.Prelude.{◌≡◌, ◌<◌, ◌≤◌, length, MatchResult};
-ghost use Rattle.gauge.specs.Deeds.{Did};
+ghost use Rattle.gauge.specs.Deeds.{Wrote};
 ghost use Rattle.machine.specs.Answers.{as_event};
 ghost use Rattle.machine.specs.Entry.{bytes_of, StepSays, step_fits};
 ghost use Rattle.machine.specs.Machine.{reacts};
 
 use boot::{recall, wake};
-use gauge::memory::{CELLS, PHASE};
-use gauge::{Memory, Phase, accumulate, end, fill, go_on};
+use gauge::memory::{CELLS, CREW, ME, PHASE};
+use gauge::{Buffer, Memory, Phase};
+use handlers::{absorb_letter, absorb_reading, finish, go_on, pause};
 use thiserror::Error;
 
 mod boot;
+mod choose;
+mod handlers;
 
 pub use gauge::Act;
 pub use gauge::memory::LETTER;
@@ -76,19 +79,29 @@ fn check_length(bytes: &[u8]) -> Result<(), StepError>
 }
 
 // What the machine does when it is told of an event. One that cannot come in its phase changes nothing.
-fn react(memory: &mut Memory, event: Event<'_>, out: &mut [u8]) -> Act
-    requires { 4096 ≤ length out.old }
-    ensures { Did (reacts memory.old (as_event event.entry)) result memory.new out.old out.new }
+fn react(memory: &mut Memory, event: Event<'_>, out: &mut Buffer) -> Act
+    ensures { Wrote (reacts memory.old (as_event event.entry)) result memory.new out.old out.new }
 {
-    let reading = memory[PHASE] == u64::from(Phase::Reading);
+    if let Event::Wakes(me) = event {
+        return wake(memory, me);
+    }
+    if memory[ME] >= CREW as u64 {
+        return Act::Rests;
+    }
     match event {
-        Event::Wakes(_) => wake(memory),
-        Event::Comes(time, place, value) if reading => accumulate(memory, time, place, value, out),
-        Event::Later if reading => fill(memory, out),
-        Event::Ends if reading => end(memory, out),
-        Event::Slot(bytes) => recall(memory, bytes),
-        Event::Next => go_on(memory, out),
-        _ => Act::Rests,
+        Event::Slot(bytes) => return recall(memory, bytes),
+        Event::Next => return go_on(memory, out),
+        _ => {}
+    }
+    if memory[PHASE] != u64::from(Phase::Ready) {
+        return Act::Rests;
+    }
+    match event {
+        Event::Comes(time, place, value) => absorb_reading(memory, time, place, value, out),
+        Event::Later => pause(memory, out),
+        Event::Ends => finish(memory, out),
+        Event::Letter(from, bytes) => absorb_letter(memory, from, bytes, out),
+        Event::Wakes(_) | Event::Slot(_) | Event::Next => Act::Rests,
     }
 }
 
@@ -100,8 +113,8 @@ pub fn step(memory: &mut [u64], event: Event<'_>, out: &mut [u8]) -> Result<Act,
         return Err(StepError::MemoryLength);
     };
     check_length(event.bytes())?;
-    if out.len() < LETTER {
+    let Some(out) = out.first_chunk_mut::<LETTER>() else {
         return Err(StepError::BufferTooShort);
-    }
+    };
     Ok(react(memory, event, out))
 }

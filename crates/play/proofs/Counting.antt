@@ -1,7 +1,7 @@
 -- Rows that are told again, counted one by one.
 use Rattle.std.proofs.Common.{◌≡◌, ℕ, ◌+◌, Bool, List, [], ◌∷◌, ◌++◌, ap, ◌∙◌, add_assoc}
+use Rattle.sums.specs.Again.{again_after}
 use Rattle.sums.specs.Sums.{pick, ToldSum, has_told}
-use Rattle.promise.specs.Once.{again_after}
 
 -- one row more, whose hour and place stood there before or not
 pub again_step : (a total : ℕ) (wall rest : List ToldSum) (t : ToldSum) (b : Bool) → b ≡ has_told wall t.hour t.place →

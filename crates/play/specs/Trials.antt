@@ -1,9 +1,10 @@
 -- What came of rivers, and how it is added up. Assumes nothing: these are definitions.
 use Rattle.std.specs.Prelude.{◌≡◌, ◌↔◌, ℕ, ◌+◌, min, Bool, true, ◌&&◌, List, [], ◌∷◌, length, ◌==◌, nat_lt}
+use Rattle.sums.specs.Again.{told_again}
 use Rattle.sums.specs.Sums.{pick, Gauges, ToldSum, all_told}
 use Rattle.machine.specs.Run as run
 use Rattle.rows.specs.Walls.{wrong_rows}
-use Rattle.promise.specs.Once.{told_again, strokes_of}
+use Rattle.play.specs.Scores.{all_strokes}
 use Rattle.play.specs.Verdicts.{AreUntold}
 use Rattle.play.specs.declared.trials.Score.{Score}
 
@@ -31,13 +32,13 @@ unfoldable pub readings_after : ℕ → Gauges → ℕ
 readings_after n [] = n
 readings_after n (rs ∷ gs) = readings_after (plus n (length rs)) gs
 
--- the score of one world, after these things that happen; rows are told too often where more are told again than there are strokes on the first machine, which alone tells
+-- the score of one world, after these things that happen; rows are told too often where more are told again than there are strokes
 pub record Scores (gs : Gauges) (is : List run.Item) (w : run.World) (s : Score) : Type 0 where
   pub worlds : s.worlds ≡ 1
   pub readings : s.readings ≡ readings_after 0 gs
   pub told : s.told ≡ length w.told
   pub again : s.again ≡ told_again w.told
-  pub too_often : s.too_often ≡ pick (nat_lt (strokes_of 0 is) (told_again w.told)) 1 0
+  pub too_often : s.too_often ≡ pick (nat_lt (all_strokes is) (told_again w.told)) 1 0
   pub wrong : s.wrong ≡ wrong_rows gs w.told
   pub untold : (rows : List ToldSum) × AreUntold gs w.told rows × (s.untold ≡ length rows)
   pub none_untold : (s.untold ≡ 0) ↔ (all_told gs w.told ≡ true)

@@ -1,14 +1,15 @@
 // What is counted of rivers that were played.
 ghost use Rattle.std.specs.Prelude.{◌≡◌, ◌+◌, ◌*◌, ◌/◌, ◌%◌, ◌<◌, IfOk, MatchOption};
+ghost use Rattle.sums.specs.Again.{told_again};
 ghost use Rattle.sums.specs.Readings.{as_gauges};
 ghost use Rattle.machine.specs.Entry.{own};
 ghost use Rattle.machine.specs.Run.{new_world};
 ghost use Rattle.rows.specs.Walls.{as_wall};
 ghost use Rattle.world.specs.Tallies.{none_counted};
-ghost use Rattle.promise.specs.Once.{told_again, strokes_of};
 ghost use Rattle.play.specs.Plays.{unrolled};
-ghost use Rattle.play.specs.Scores.{acts_of_each};
+ghost use Rattle.play.specs.Scores.{acts_of_each, all_strokes};
 
+use machine::MACHINES;
 use river::Item;
 use rows::Row;
 use std::alloc::{AllocError, Global};
@@ -50,12 +51,12 @@ pub fn told_again(heap: Global, told: &[Row]) -> Result<u64, AllocError>
     Ok(again)
 }
 
-// How often lightning strikes a machine; in calm it strikes none.
-pub fn strokes_of(items: &[Item], machine: u64) -> u64
-    ensures { result ≡ strokes_of machine (unrolled items.now) }
+// How often lightning strikes any of the machines; in calm it strikes none.
+pub fn strokes_of(items: &[Item]) -> u64
+    ensures { result ≡ all_strokes (unrolled items.now) }
 {
     let strokes = items.iter().filter(
-        |item| matches!(item, Item::Falls(struck) if *struck == machine),
+        |item| matches!(item, Item::Falls(machine) if *machine < MACHINES),
     );
     strokes.count() as u64
 }

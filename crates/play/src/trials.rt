@@ -2,7 +2,6 @@
 ghost use Rattle.std.specs.Prelude.{◌≡◌, true, IfOk, IfErr};
 ghost use Rattle.sums.specs.Sums.{pick, all_told, gauges_fine};
 ghost use Rattle.sums.specs.Readings.{as_gauges};
-ghost use Rattle.promise.specs.Promise.{core};
 ghost use Rattle.rows.specs.Walls.{TooMuch};
 ghost use Rattle.world.specs.Worlds.{as_world};
 ghost use Rattle.play.specs.Plays.{unrolled, played};
@@ -20,9 +19,6 @@ use std::fmt;
 use sums::Reading;
 use world::World;
 
-// The machine that tells: the only one, as long as the other gauges have no readings.
-const TELLER: u64 = 0;
-
 #[derive(Clone, Copy, PartialEq, Eq, Debug)]
 pub struct Score {
     // How many worlds were played.
@@ -31,7 +27,7 @@ pub struct Score {
     // How many rows are on the walls, and how many of them were told before.
     pub told: u64,
     pub again: u64,
-    // On how many walls more rows were told before than there were strokes on the machine that tells.
+    // On how many walls more rows were told before than there were strokes.
     pub too_often: u64,
     pub wrong: u64,
     pub untold: u64,
@@ -124,7 +120,7 @@ fn outcome_of(
         readings: count_readings(gauges),
         told: world.told.len() as u64,
         again,
-        too_often: u64::from(again > strokes_of(items, TELLER)),
+        too_often: u64::from(again > strokes_of(items)),
         wrong: comparison.wrong,
         untold: comparison.untold.len() as u64,
         faults: u64::from(world.fault),
@@ -132,11 +128,11 @@ fn outcome_of(
     Ok(Outcome { verdict, score })
 }
 
-// The river played from the start and judged. Where only the first gauge has readings, nothing is at fault, no row is wrong and none is told too often.
+// The river played from the start and judged. Nothing is at fault, no row is wrong and none is told too often.
 pub fn trial(heap: Global, gauges: &[Vec<Reading>], items: &[Item]) -> Result<Outcome, WallError>
     ensures verdict { IfOk result (λ t. t.verdict ≡ verdict_of (as_gauges gauges.now) (played (as_gauges gauges.now) items.now)) }
-    ensures right { IfOk result (λ t. gauges_fine (as_gauges gauges.now) ≡ true → core (as_gauges gauges.now) ≡ true → t.verdict ≡ pick (all_told (as_gauges gauges.now) (played (as_gauges gauges.now) items.now).told) AllRight NotAll) }
-    ensures rare { IfOk result (λ t. gauges_fine (as_gauges gauges.now) ≡ true → core (as_gauges gauges.now) ≡ true → t.score.too_often ≡ 0) }
+    ensures right { IfOk result (λ t. gauges_fine (as_gauges gauges.now) ≡ true → t.verdict ≡ pick (all_told (as_gauges gauges.now) (played (as_gauges gauges.now) items.now).told) AllRight NotAll) }
+    ensures rare { IfOk result (λ t. gauges_fine (as_gauges gauges.now) ≡ true → t.score.too_often ≡ 0) }
     ensures score { IfOk result (λ t. Scores (as_gauges gauges.now) (unrolled items.now) (played (as_gauges gauges.now) items.now) t.score) }
     ensures refused { IfErr result (λ e. TooMuch (as_gauges gauges.now) e) }
 {

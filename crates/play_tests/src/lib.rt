@@ -11,7 +11,7 @@ mod tests {
     use std::test::Fail;
     use world::Kind;
 
-    const SHORT: &str = "gauge 0\n10 1 4\n50 2 0\n130 1 7\nhappens\nworks 0 30\ncalm 1 100\n";
+    const SHORT: &str = "gauge 0\n10 1 4\n50 2 0\n130 1 7\nhappens\nworks 0 30\ncalm 8 100\n";
 
     #[test]
     fn splitmix64(rt: HostRuntime) {
@@ -44,7 +44,7 @@ mod tests {
                 sum = (sum ^ u64::from(*byte)).wrapping_mul(0x100_0000_01b3);
             }
         }
-        assert_eq!(rt; sum, 0x081f_588d_a5ca_4ecb);
+        assert_eq!(rt; sum, 0xa464_4092_6699_7614);
         Ok(())
     }
 
@@ -52,14 +52,14 @@ mod tests {
     fn rivers_at_random_are_right(rt: HostRuntime) -> Result<(), Fail> {
         let heap = rt.alloc();
         let mut score = Score::NONE;
-        for seed in 1..=20 {
+        for seed in 1..=5 {
             let text = chance::random_river(heap, seed)?;
             let river = parse(heap, text.as_str())?;
             let outcome = play::trial(heap, river.gauges.as_slice(), river.items.as_slice())?;
             assert_eq!(rt; outcome.verdict, Verdict::Right);
             score = score.plus(outcome.score);
         }
-        assert_eq!(rt; score.worlds, 20);
+        assert_eq!(rt; score.worlds, 5);
         assert!(rt; score.readings > 20_000);
         assert_eq!(rt; score.wrong, 0);
         assert_eq!(rt; score.too_often, 0);
@@ -82,9 +82,9 @@ mod tests {
         Ok(())
     }
 
-    // A stroke on one machine is none on another, and in calm there is none.
+    // A stroke on any machine is one, and in calm there is none.
     #[test]
-    fn strokes_of_one_machine(rt: HostRuntime) {
+    fn strokes_of_all_machines(rt: HostRuntime) {
         let items = [
             Item::Falls(3),
             Item::Works(0, 9),
@@ -92,9 +92,9 @@ mod tests {
             Item::Falls(3),
             Item::Calm(2, 7),
         ];
-        assert_eq!(rt; play::strokes_of(&items, 0), 1);
-        assert_eq!(rt; play::strokes_of(&items, 1), 0);
-        assert_eq!(rt; play::strokes_of(&items, 3), 2);
+        assert_eq!(rt; play::strokes_of(&items), 3);
+        assert_eq!(rt; play::strokes_of(&items[..2]), 1);
+        assert_eq!(rt; play::strokes_of(&[Item::Falls(8)]), 0);
     }
 
     // Struck after every act of its first turn: right each time, and a row is told again at most once.
@@ -147,7 +147,7 @@ mod tests {
         Ok(())
     }
 
-    // Machine 0 boots, reads, tells three rows and rests in 25 acts; then it does none till it is poked, and then rests.
+    // Machine 0 boots, reads, sends to each other and rests in 15 acts; then it does none till it is poked, and then rests.
     #[test]
     fn acts_of_each_item(rt: HostRuntime) -> Result<(), Fail> {
         let heap = rt.alloc();
@@ -161,7 +161,7 @@ mod tests {
             Item::Works(0, 9),
         ];
         let acts = play::acts_of(heap, river.gauges.as_slice(), &items)?;
-        assert!(rt; acts.as_slice() == [7, 0, 18, 0, 0, 1].as_slice());
+        assert!(rt; acts.as_slice() == [7, 0, 8, 0, 0, 1].as_slice());
         Ok(())
     }
 

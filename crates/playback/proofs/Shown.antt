@@ -4,9 +4,9 @@ use Rattle.std.proofs.KnownBytes.{Appends-trans}
 use Rattle.std.specs.Io.KnownBytes.{Appends}
 use Rattle.sums.specs.Sums.{Gauges, ToldSum, gauges_fine}
 use Rattle.machine.specs.Run as run
-use Rattle.promise.specs.Promise.{Safe, core}
-use Rattle.promise.specs.Ever.{EverWhole}
-use Rattle.promise.proofs.Core.{ever_whole}
+use Rattle.promise.specs.Promise.{Safe}
+use Rattle.whole.proofs.Promised.{ever_whole}
+use Rattle.whole.specs.Promises.{EverWhole}
 use Rattle.river.specs.declared.model.Item.{Item}
 use Rattle.rows.specs.Walls.{wrong_rows}
 use Rattle.text.specs.Text.{Bytes}
@@ -27,6 +27,6 @@ module _ (gs : Gauges) (w : run.World) (rest : List ToldSum) (told wrong left : 
       (rest, are, Appends-trans a b d _ _ p (Appends-trans b c d _ _ q (subst (Appends c d) line r)))
 
 -- the promise, of what is played
-pub played_safe : (gs : Gauges) (its : List Item) → gauges_fine gs ≡ true → core gs ≡ true → Safe gs (played gs its)
+pub played_safe : (gs : Gauges) (its : List Item) → gauges_fine gs ≡ true → Safe gs (played gs its)
 unfolding EverWhole
-played_safe gs its fine known = (ever_whole gs (unrolled its) fine known).0
+played_safe gs its fine = (ever_whole gs (unrolled its) fine).0

@@ -3,7 +3,7 @@ use Rattle.std.specs.Prelude.{◌≡◌, ℕ, Bool, true, false, List, ◌++◌,
 use Rattle.std.specs.Io.KnownBytes.{Appends}
 use Rattle.sums.specs.Sums.{Gauges, ToldSum}
 use Rattle.machine.specs.Run as run
-use Rattle.promise.specs.Promise.{Safe, core}
+use Rattle.promise.specs.Promise.{Safe}
 use Rattle.river.specs.Rivers.{ToldRiver}
 use Rattle.rows.specs.Walls.{wrong_rows}
 use Rattle.text.specs.Text.{Bytes}
@@ -35,7 +35,7 @@ play_text gs w untold =
 abbrev pub ShowsPlay : Gauges → run.World → Option Bytes → Option Bytes → Type 0
 ShowsPlay gs w old new = (untold : List ToldSum) × AreUntold gs w.told untold × Appends old new (play_text gs w untold)
 
--- the river was played, of which only the first gauge has readings: no machine is at fault in its world, and every row on the wall is right
+-- the river was played: no machine is at fault in its world, and every row on the wall is right
 abbrev pub PlaysOne : (file : Bytes) → (input old new : Option Bytes) → Type 0
 PlaysOne file input old new =
-    (r : ToldRiver) × TellsOf file input r × (core r.gauges ≡ true) × Safe r.gauges (played r.gauges r.course) × ShowsPlay r.gauges (played r.gauges r.course) old new
+    (r : ToldRiver) × TellsOf file input r × Safe r.gauges (played r.gauges r.course) × ShowsPlay r.gauges (played r.gauges r.course) old new

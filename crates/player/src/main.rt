@@ -2,8 +2,8 @@
 #![tactic(auto)]
 
 use status::{Failure, is_version_asked, print_version, status};
-use std::process::ExitCode;
 use std::io::{BufWriter, Write};
+use std::process::ExitCode;
 use std::{env, io};
 
 const NAME: &str = "player";

@@ -2,9 +2,9 @@
 use Rattle.std.proofs.Common.{◌≡◌, ℕ, suc, ◌+◌, ◌<◌, ◌≤◌, true, false, List, [], ◌∷◌, ◌++◌, length, drop, refl}
 use Rattle.std.proofs.lemmas.Bool.{leb-true, leb-false, ltb-true, ltb-false, le-leb, lt-ltb}
 use Rattle.sums.specs.Sums.{Gauges, none_of, ToldSum}
+use Rattle.sums.proofs.Picks.{pick_both}
 use Rattle.machine.specs.Run.{World, Machine, machine, machine_at, set_nth, nth_row, with_machine, faulty, Letter, bytes, first_reading, acted, poked, delivered, given}
 use Rattle.machine.specs.Run.{Act, more, from, let_go, sends, keep, recall, tells, rests, Event, later, ends, letter, slot, next, first_between, without_first}
-use Rattle.promise.proofs.Induction.{pick_both}
 
 -- machine i as it is
 abbrev pub state : World → ℕ → Machine

@@ -1,13 +1,10 @@
 -- What one act, a poke, a letter and a fall keep, all that happens keeps, and so do calm rounds. For any engine.
 use Rattle.std.proofs.Common.{◌≡◌, ℕ, zero, suc, Bool, true, false, List, [], ◌∷◌, refl}
 use Rattle.std.proofs.lemmas.Bool.{both_ways}
-use Rattle.sums.specs.Sums.{pick, Gauges}
+use Rattle.sums.specs.Sums.{Gauges}
+use Rattle.sums.proofs.Picks.{pick_both}
 use Rattle.machine.specs.Run.{Engine, World, machine_at, Item, works, poke, brings, falls, all_happened, happened, calm, round, by_each, up_to}
 use Rattle.machine.specs.Run.{goes, one_step, poked, delivered, fallen}
-
-pub pick_both : {A : Type 0} (b : Bool) (x y : A) (P : A → Type 0) → (b ≡ true → P x) → (b ≡ false → P y) → P (pick b x y)
-pick_both true x y P f g = f refl
-pick_both false x y P f g = g refl
 
 pub by_each_good : (Good : World → Type 0) (f : World → ℕ → World) → ((w : World) (i : ℕ) → Good w → Good (f w i)) →
     (is : List ℕ) (w : World) → Good w → Good (by_each f w is)

@@ -30,22 +30,6 @@ rows_fine (rs ∷ gs) (suc i) h = rows_fine gs i (and_parts _ _ h).1
 pub row_fine : (gs : Gauges) (i : ℕ) → gauges_fine gs ≡ true → Fine (nth_row gs i)
 row_fine gs i h = rows_fine gs i (and_parts (eqb (length gs) 8) _ h).1
 
--- what a reading says of its numbers
-pub record Fits (r : Reading) : Type 0 where
-  pub time : r.time < 4611686018427387904
-  pub key : r.key < 1024
-  pub value : r.value < 4294967296
-
-pub fits_at : (row : List Reading) (p : ℕ) → every a_reading row ≡ true → p < length row → Fits (get_or row p no_reading)
-fits_at row p h lt =
-    let fits : a_reading (get_or row p no_reading) ≡ true = every_at a_reading row p no_reading lt h in
-    let rest = (and_parts (ltb (get_or row p no_reading).time 4611686018427387904) _ fits).1 in
-    record {
-      time = ltb-true _ _ (and_parts _ _ fits).0;
-      key = ltb-true _ _ (and_parts _ _ rest).0;
-      value = ltb-true _ _ (and_parts (ltb (get_or row p no_reading).key 1024) _ rest).1;
-    }
-
 -- the event that comes of a place in the row
 pub reading_at : (row : List Reading) (p : ℕ) (P : Event → Type 0) → p < length row →
     P (comes (get_or row p no_reading).time (get_or row p no_reading).key (get_or row p no_reading).value) → P (first_reading (drop p row))

@@ -1,4 +1,2 @@
 pub mod Promise
-pub mod Released
-pub mod Ever
 pub mod Once

@@ -1,7 +1,5 @@
 // The river that a file has.
-ghost use Rattle.std.specs.Prelude.{◌≡◌, true, IfOk, string_bytes};
-ghost use Rattle.sums.specs.Readings.{as_gauges};
-ghost use Rattle.promise.specs.Promise.{core};
+ghost use Rattle.std.specs.Prelude.{◌≡◌, IfOk, string_bytes};
 ghost use Rattle.river.specs.Fine.{RiverFine};
 ghost use Rattle.river.specs.Rivers.{as_told};
 ghost use Rattle.status.specs.Endings.{status_of};
@@ -54,26 +52,12 @@ fn failure_of(file: &str, text: &str, mistake: Mistake) -> Failure
     }
 }
 
-// Any river, also one that is not played.
-pub fn read_any<R: Read>(rt: &HostRuntime, input: &mut R, file: &str) -> Result<River, Failure>
+// The river that the file, or the input, has.
+pub fn read_river<R: Read>(rt: &HostRuntime, input: &mut R, file: &str) -> Result<River, Failure>
     ensures fine { IfOk result RiverFine }
     ensures told { IfOk result (λ r. TellsOf file.now (R.remaining input.old) (as_told r)) }
 {
     let text = read(rt, input, file)?;
     let text = text.as_str();
     river::parse(rt.alloc(), text).map_err(|mistake| failure_of(file, text, mistake))
-}
-
-// A river that the machines are right on.
-pub fn read_river<R: Read>(rt: &HostRuntime, input: &mut R, file: &str) -> Result<River, Failure>
-    ensures fine { IfOk result RiverFine }
-    ensures told { IfOk result (λ r. TellsOf file.now (R.remaining input.old) (as_told r)) }
-    ensures core { IfOk result (λ r. core (as_gauges r.gauges.items) ≡ true) }
-{
-    let river = read_any(rt, input, file)?;
-    let name = named(file);
-    scope::first_alone(river.gauges.as_slice()).map_err(|other| Failure::Refused(anyhow!(
-        "{name}: {other}"
-    )))?;
-    Ok(river)
 }

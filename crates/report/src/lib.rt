@@ -5,6 +5,6 @@ mod input;
 mod listing;
 mod progress;
 
-pub use input::{read_any, read_river};
+pub use input::read_river;
 pub use listing::{print_rows, print_sums, print_untold, too_much};
 pub use progress::{Progress, seconds_left};

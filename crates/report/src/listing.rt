@@ -5,7 +5,7 @@ ghost use Rattle.std.specs.Io.KnownBytes.{Appends};
 ghost use Rattle.rows.specs.Walls.{as_wall};
 ghost use Rattle.report.specs.Printed.{wall_text, untold_text, ListsAll, ListsOne};
 
-use crate::input::read_any;
+use crate::input::read_river;
 use rows::{Row, WallError};
 use status::Failure;
 use std::alloc::Global;
@@ -61,6 +61,6 @@ pub fn print_sums<R: Read, W: Write>(
 ) -> Result<(), Failure>
     ensures { OnOk result (ListsOne file.now (R.remaining input.old) (W.contents out.old) (W.contents out.new)) }
 {
-    let river = read_any(rt, input, file)?;
+    let river = read_river(rt, input, file)?;
     print_sums_of(rt.alloc(), out, river.gauges.as_slice())
 }

@@ -16,8 +16,9 @@ fn run(rt: &HostRuntime) -> Result<(), Failure> {
         .map_err(Failure::refused)?
         .skip(1)
         .collect(rt.alloc())?;
+    let mut out = io::writer(rt);
     if is_version_asked(words.as_slice()) {
-        return print_version(&mut io::writer(rt), NAME);
+        return print_version(&mut out, NAME);
     }
-    keeper::run(rt, words, rt.reader())
+    keeper::run(rt, words, rt.reader(), &mut out)
 }

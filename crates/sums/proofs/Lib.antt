@@ -1,6 +1,8 @@
 pub mod Eaches
 pub mod Everys
 pub mod Anys
+pub mod Picks
+pub mod Readings
 pub mod Those
 pub mod Laws
 pub mod Rising

@@ -1,5 +1,6 @@
 pub mod Sums
 pub mod Parts
+pub mod Again
 pub mod Laws
 pub mod Add
 pub mod Readings

@@ -9,15 +9,11 @@ use anyhow::anyhow;
 use play::Score;
 use player_args::Strokes;
 use report::{Progress, too_much};
+use river::model::ACTS_LIMIT;
 use river::{Item, River};
 use status::Failure;
 use std::io::Write;
 use sums::Reading;
-
-// Acts enough for a machine to come to rest.
-const TILL_REST: u64 = 1 << 32;
-// After the strokes there is calm enough for everything to be told.
-const LAST_CALM: Item = Item::Calm(2, TILL_REST);
 
 // Where a machine is struck first: at which item, and after how many acts of it; and after how many acts at most it is struck again, where it is.
 #[derive(Clone, Copy)]
@@ -36,12 +32,13 @@ impl Stroke {
     }
 }
 
-// A river whose calm is written out.
+// A river whose calm is written out, and the calm that follows on the strokes.
 #[derive(Clone, Copy)]
 struct Target<'a> {
     rt: &'a HostRuntime,
     gauges: &'a [Vec<Reading>],
     items: &'a [Item],
+    calm: Item,
 }
 
 impl<'a> Target<'a> {
@@ -50,7 +47,7 @@ impl<'a> Target<'a> {
         let heap = self.rt.alloc();
         let mut items = play::struck(heap, self.items, k, &[first]).map_err(Failure::wrong)?;
         items.truncate(k.saturating_add(2));
-        items.push(Item::Works(machine, TILL_REST))?;
+        items.push(Item::Works(machine, ACTS_LIMIT))?;
         let acts = play::acts_of(heap, self.gauges, items.as_slice())?;
         Ok(acts.as_slice().last().copied().unwrap_or(0))
     }
@@ -106,7 +103,7 @@ impl<'a> Target<'a> {
     {
         let heap = self.rt.alloc();
         let mut items = play::struck(heap, self.items, k, strokes).map_err(Failure::wrong)?;
-        items.push(LAST_CALM)?;
+        items.push(self.calm)?;
         let outcome = play::trial(heap, self.gauges, items.as_slice()).map_err(too_much)?;
         if !outcome.score.is_right() {
             let text = chance::river_text(heap, self.gauges, items.as_slice())?;
@@ -150,6 +147,22 @@ impl<'a> Target<'a> {
     }
 }
 
+// How many hours the gauges have, each by itself.
+fn count_hours(gauges: &[Vec<Reading>]) -> u64 {
+    let mut hours: u64 = 0;
+    for gauge in gauges {
+        let mut last = None;
+        for reading in gauge {
+            let hour = Some(reading.hour());
+            if hour != last {
+                hours = hours.saturating_add(1);
+            }
+            last = hour;
+        }
+    }
+    hours
+}
+
 // How many there are in all.
 fn total(counts: &[u64]) -> u64 {
     counts
@@ -177,6 +190,7 @@ pub fn strike_all<W: Write>(
         rt,
         gauges: river.gauges.as_slice(),
         items: items.as_slice(),
+        calm: chance::last_calm(count_hours(river.gauges.as_slice())),
     };
     let strokes = target.strokes(out, progress, strokes)?;
     if strokes.is_empty() {

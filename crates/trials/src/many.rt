@@ -17,7 +17,6 @@ fn play_one<W: Write>(rt: &HostRuntime, out: &mut W, seed: u64) -> Result<Score,
     let heap = rt.alloc();
     let text = chance::random_river(heap, seed)?;
     let river = river::parse(heap, text.as_str()).map_err(Failure::wrong)?;
-    scope::first_alone(river.gauges.as_slice()).map_err(Failure::wrong)?;
     let outcome = play::trial(heap, river.gauges.as_slice(), river.items.as_slice()).map_err(
         too_much,
     )?;

@@ -12,7 +12,7 @@ mod tests {
     use crate::send;
     use std::test::Fail;
 
-    // No machine sends a letter so far, and so nothing else shows that one can be written.
+    // The line behind `to`, also of a letter of no bytes.
     #[test]
     fn a_letter_is_written(rt: HostRuntime) -> Result<(), Fail> {
         let heap = rt.alloc();

@@ -4,8 +4,7 @@ use Rattle.sums.specs.Sums.{none_of, or, Gauges}
 use Rattle.machine.specs.Run as run
 use Rattle.machine.specs.Run.{machine_at, goes, one_step}
 use Rattle.machine.specs.Entry.{own}
-use Rattle.promise.proofs.Calm.{goes_at_rest}
-use Rattle.world.proofs.Turning.{goes_fault, goes_step}
+use Rattle.world.proofs.Turning.{goes_at_rest, goes_fault, goes_step}
 
 -- so many acts, and then so many
 pub goes_both : (gs : Gauges) (w : run.World) (i a b : ℕ) → goes (a + b) own gs w i ≡ goes b own gs (goes a own gs w i) i
@@ -31,4 +30,4 @@ still_goes gs w i n h = go w.fault refl
   where
     go : (f : Bool) → w.fault ≡ f → goes n own gs w i ≡ w
     go true e = goes_fault gs w i n e
-    go false e = goes_at_rest own gs n w i (nothing_told _ (rw e at h))
+    go false e = goes_at_rest gs w i n (nothing_told _ (rw e at h))

@@ -2,10 +2,10 @@
 use Rattle.std.proofs.Common.{◌≡◌, ℕ, zero, suc, Bool, true, false, List, [], ◌∷◌, ◌++◌, Some, inl, inr, sym, refl, ap, ◌∙◌, subst, ap₂}
 use Rattle.std.proofs.lemmas.Bool.{both_ways}
 use Rattle.sums.specs.Sums.{pick, Gauges}
+use Rattle.sums.proofs.Picks.{pick_both}
 use Rattle.machine.specs.Run as run
 use Rattle.machine.specs.Run.{machine_at, nth_row, one_step, happened, all_happened, goes, poked, delivered, more, from, let_go, sends, keep, recall, tells, rests, poke, brings, works}
 use Rattle.machine.specs.Entry.{own}
-use Rattle.promise.proofs.Induction.{pick_both}
 use Rattle.hut.specs.Effects.{after, Seen, Turned}
 use Rattle.hut.specs.declared.effect.Effect.{Effect}
 use Rattle.hut.specs.declared.effect.Effect.TheVariants as effect

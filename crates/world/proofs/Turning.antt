@@ -3,10 +3,11 @@ use Rattle.std.proofs.Common.{◌≡◌, ℕ, zero, suc, ◌≤◌, Bool, true, 
 use Rattle.std.proofs.lemmas.Bool.{both_ways}
 use Rattle.sums.specs.Sums.{each, none_of, Gauges}
 use Rattle.sums.proofs.Eaches.{length_each}
+use Rattle.sums.proofs.Picks.{pick_both}
 use Rattle.machine.specs.Run as run
 use Rattle.machine.specs.Run.{machine, machine_at, set_nth, delivered, given, first_between, without_first, letter, nth_row, with_machine, one_step, goes, by_each, up_to}
 use Rattle.machine.specs.Entry.{own}
-use Rattle.promise.proofs.Induction.{pick_both, goes_more}
+use Rattle.promise.proofs.Induction.{goes_more}
 use Rattle.hut.specs.Played.{as_machine, told_next}
 use Rattle.hut.specs.Effects.{after, posted, Lasts, Turned}
 use Rattle.hut.specs.declared.effect.Effect.{Effect}
@@ -69,6 +70,12 @@ module _ (gs : Gauges) (w : run.World) (i : ℕ) where
   unfolding goes
   goes_fault zero e = refl
   goes_fault (suc n) e = pick_both w.fault w _ (λ u. u ≡ w) (λ _. refl) (λ q. absurd (both_ways _ q e))
+
+  -- one that rests does nothing
+  pub goes_at_rest : (n : ℕ) → (machine_at w.machines i).pending ≡ [] → goes n own gs w i ≡ w
+  unfolding goes one_step
+  goes_at_rest zero r = refl
+  goes_at_rest (suc n) r = pick_both w.fault w _ (λ u. u ≡ w) (λ _. refl) (λ _. rw r (goes_at_rest n r))
 
   pub goes_step : (n : ℕ) → w.fault ≡ false → goes (suc n) own gs w i ≡ goes n own gs (one_step own gs w i (machine_at w.machines i).pending) i
   goes_step n e = goes_more own gs n w i (λ u. u ≡ goes n own gs (one_step own gs w i (machine_at w.machines i).pending) i) e refl

@@ -53,7 +53,7 @@ mod tests {
         for acts in from..to {
             strike(&mut world, heap, gauges, acts)?;
         }
-        world.happen(heap, gauges, Item::Calm(1, 1_000_000))?;
+        world.happen(heap, gauges, Item::Calm(60, 1_000_000))?;
         Ok(world)
     }
 

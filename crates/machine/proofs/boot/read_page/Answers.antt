@@ -1,4 +1,4 @@
-use Rattle.std.proofs.Common.{◌≡◌, ℕ, ◌+◌, ◌*◌, ◌<◌, true, false, eqb, List, ◌++◌, length, drop, is_ok, Ok, Err, Result, OnOk, if◌then◌else◌, cond, length-drop, refl, sym, ap, ◌∙◌, ⊎_elim, arith}
+use Rattle.std.proofs.Common.{◌≡◌, ℕ, ◌+◌, ◌*◌, ◌<◌, ◌≤◌, true, false, eqb, List, ◌++◌, length, drop, is_ok, Ok, Err, Result, OnOk, if◌then◌else◌, cond, length-drop, refl, sym, ap, ◌∙◌, ⊎_elim, arith}
 use borrow.Rule.Slice.PartMut.{mid_of, put_mid, put_same}
 use Rattle.std.proofs.lemmas.Bool.{eq-eqb, and_from, cases_Bool}
 use Rattle.std.proofs.lemmas.List.{length-take-le}
@@ -14,7 +14,7 @@ use Rattle.machine.specs.Boot.{page_fits, page_read}
 use Rattle.machine.proofs.boot.read_page.Goals as goal
 
 -- The memory m split into f and b, and joined again once a page is read into the parts ss and cs of them, which are ss' and cs' then, or is refused.
-module _ (m f b bs ss cs ss' cs' : List ℕ) (p k l : ℕ) (lt : p < pages) (em : m ≡ f ++ b) (ef : length f ≡ counts_at) (eb : length b ≡ places)
+module _ (m f b bs ss cs ss' cs' : List ℕ) (p k l : ℕ) (lt : p < pages) (em : m ≡ f ++ b) (ef : length f ≡ counts_at) (eb : places ≤ length b)
     (ek : k ≡ slots) (el : l ≡ slots) (es : ss ≡ mid_of (sums_at + slots * p) k f) (ec : cs ≡ mid_of (slots * p) l b)
     (es' : ss' ≡ sums_read bs ss cs) (ec' : cs' ≡ counts_read bs ss cs) where
   rows : rows_fit ss cs ≡ true

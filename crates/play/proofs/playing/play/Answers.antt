@@ -4,8 +4,8 @@ use Rattle.sums.specs.Readings.{as_gauges}
 use Rattle.machine.specs.Entry.{own}
 use Rattle.machine.specs.Run.{all_happened, new_world}
 use Rattle.promise.specs.Promise.{Safe}
-use Rattle.promise.proofs.Core.{ever_whole}
-use Rattle.promise.specs.Ever.{EverWhole}
+use Rattle.whole.proofs.Promised.{ever_whole}
+use Rattle.whole.specs.Promises.{EverWhole}
 use Rattle.river.specs.declared.model.Item.TheVariants.{Works}
 use Rattle.world.specs.Tallies.{none_counted, all_counted}
 use Rattle.world.specs.Worlds.{as_world, Passed}
@@ -34,4 +34,4 @@ returns c =
     let u = c.loop-item.world in
     let all = subst (λ its. Passed gs (new_world own) none_counted (unrolled its) (as_world u) u.tally.counts) (take_all c.loop-item.item-index c.args.items.now c.loop-item-test.false)
     c.loop-item.invariant in
-    record { world = all.world; counts = all.counts; right = λ fine known. subst (Safe gs) (sym all.world) (ever_whole gs (unrolled c.args.items.now) fine known).0 }
+    record { world = all.world; counts = all.counts; right = λ fine. subst (Safe gs) (sym all.world) (ever_whole gs (unrolled c.args.items.now) fine).0 }

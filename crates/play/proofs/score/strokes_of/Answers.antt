@@ -7,5 +7,5 @@ use Rattle.play.proofs.score.strokes_of.Goals as goal
 pub returns : goal.returns
 returns c =
     count_from_yields_List _ _ c.count.ensures.ran
-    (YieldsList-from_filter _ (is_stroke c.args.machine) (YieldsList-from_slice c.args.items.now cc) c.filter-strokes.ensures.closure (λ x b q k. search rules))
-    ∙ sym (strokes_counted c.args.machine c.args.items.now)
+    (YieldsList-from_filter _ is_stroke (YieldsList-from_slice c.args.items.now cc) c.filter-strokes.ensures.closure (λ x b q k. search rules))
+    ∙ sym (strokes_counted c.args.items.now)

@@ -2,12 +2,12 @@ use Rattle.std.proofs.Common.{◌≡◌, ◌+◌, ◌≤◌, not, get_or, take, 
 use Rattle.std.proofs.Math.Bool.{not-not}
 use Rattle.std.specs.BTreeSet.{contains}
 use Rattle.std.proofs.lemmas.List.{drop_all, drop_more, get_or_default}
+use Rattle.sums.specs.Again.{again_after, told_again}
 use Rattle.sums.specs.Sums.{pick, each}
 use Rattle.rows.specs.Walls.{as_told, as_wall, pair_cmp, Marks}
 use Rattle.rows.specs.declared.Row.{Row}
 use Rattle.sums.proofs.Eaches.{each_take}
 use Rattle.rows.proofs.Walls.{no_marks, marked}
-use Rattle.promise.specs.Once.{again_after, told_again}
 use Rattle.play.proofs.Counting.{again_step}
 use Rattle.play.proofs.score.told_again.Goals as goal
 use Rattle.play.proofs.score.told_again.Goals.{then-not-branch, else-not-branch}

@@ -1,6 +1,6 @@
 use Rattle.std.proofs.Common.{◌≡◌, ◌+◌, ◌≤◌, take, drop}
 use Rattle.rows.specs.Walls.{Marks, as_wall}
-use Rattle.promise.specs.Once.{again_after, told_again}
+use Rattle.sums.specs.Again.{again_after, told_again}
 use Rattle.play.proofs.score.told_again.Given as goal
 
 abbrev pub invariant-loop-row : goal.invariant-loop-row

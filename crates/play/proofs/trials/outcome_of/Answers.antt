@@ -1,9 +1,9 @@
 use Rattle.std.proofs.Common.{◌≡◌, Bool, true, false, vec_items, sym, refl, ap, ◌∙◌, ap₂, nat_lt}
 use mir.Val.{bool_byte}
+use Rattle.sums.specs.Again.{told_again}
 use Rattle.sums.specs.Sums.{pick}
 use Rattle.sums.proofs.Eaches.{length_each}
 use Rattle.rows.specs.Walls.{as_told, as_wall}
-use Rattle.promise.specs.Once.{told_again}
 use Rattle.play.proofs.trials.outcome_of.Goals as goal
 
 one_or_none : (b : Bool) → bool_byte b ≡ pick b 1 0

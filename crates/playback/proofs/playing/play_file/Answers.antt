@@ -11,7 +11,6 @@ pub returns : goal.returns
 returns g c =
     let r = c.in_ok-river.river in
     let fine = c.in_ok-river.ensures.fine in
-    let known = c.in_ok-river.ensures.core in
     let gs = as_gauges r.gauges.items in
     let its = r.items.items in
     let old = g.W.Write.contents c.args.out.now in
@@ -20,8 +19,7 @@ returns g c =
     (λ h _. (
       as_told r,
       c.in_ok-river.ensures.told,
-      known,
-      played_safe gs its fine.0 known,
+      played_safe gs its fine.0,
       subst (λ l. ShowsPlay (as_gauges l) (played (as_gauges l) its) old new) c.as_slice.ensures.value
           (subst (λ l. ShowsPlay (as_gauges c.as_slice.result.now) (played (as_gauges c.as_slice.result.now) l) old new) c.as_slice-else-stats.ensures.value h),
     ))

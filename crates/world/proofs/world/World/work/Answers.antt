@@ -2,10 +2,9 @@ use Rattle.std.proofs.Common.{◌≡◌, suc, ◌+◌, ◌-◌, sym, ap, ◌∙�
 use Rattle.sums.specs.Readings.{as_gauges}
 use Rattle.machine.specs.Entry.{own}
 use Rattle.machine.specs.Run.{goes}
-use Rattle.promise.proofs.Calm.{goes_at_rest}
 use Rattle.world.specs.Tallies.{next_counted, acts_counted}
 use Rattle.world.specs.Worlds.{as_world}
-use Rattle.world.proofs.Turning.{goes_fault, goes_step, went_on, went_not}
+use Rattle.world.proofs.Turning.{goes_at_rest, goes_fault, goes_step, went_on, went_not}
 use Rattle.world.proofs.Tallying.{counted_fault, counted_step, counted_rest}
 use Rattle.world.proofs.Shorts.{short_works}
 use Rattle.world.proofs.world.World.work.Goals as goal
@@ -38,7 +37,7 @@ returns-then-not-branch c =
     let stayed = went_not gs w (as_world c.step.new.self) i c.in_ok-step.field-0 c.in_ok-step.ensures.world c.if-not-branch.true in
     let so_far = c.loop.invariant left in
     record {
-      world = stayed.0 ∙ sym (goes_at_rest own gs left w i stayed.1) ∙ so_far.0 ∙ ap (λ n. goes n own gs w₀ i) all;
+      world = stayed.0 ∙ sym (goes_at_rest gs w i left stayed.1) ∙ so_far.0 ∙ ap (λ n. goes n own gs w₀ i) all;
       counts = c.in_ok-step.ensures.counts c.if-self.false ∙ ap (λ es. next_counted gs w i es cs) stayed.1
           ∙ sym (counted_rest gs w i left cs stayed.1) ∙ so_far.1 ∙ ap (λ n. acts_counted n gs w₀ i c.args.self.now.tally.counts) all;
       short = tt;

@@ -1,0 +1,27 @@
+mod Cells
+mod Parts
+mod Heads
+mod Dues
+mod Bytes
+mod Placing
+mod Choosing
+mod Passing
+mod Going
+mod Sending
+mod Waking
+mod Does
+mod Boots
+mod Paging
+mod Booted
+mod Recalled
+mod Stepped
+mod Hearing
+mod Whole
+mod Reading
+mod Taking
+mod Saving
+mod Chosen
+mod Letters
+mod Mirrored
+mod Promises
+pub mod Promised
