@@ -3,6 +3,9 @@ mod Parts
 mod Heads
 mod Dues
 mod Bytes
+mod Stands
+mod Checkpointed
+mod Refilled
 mod Placing
 mod Choosing
 mod Passing
@@ -25,3 +28,4 @@ mod Letters
 mod Mirrored
 mod Promises
 pub mod Promised
+mod AddsUp

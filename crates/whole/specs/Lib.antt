@@ -1,2 +1,3 @@
 pub mod Seen
 pub mod Promises
+pub mod Stand
