@@ -1,8 +1,5 @@
 -- Bytes as digits, two at a time. Assumes nothing.
-use Rattle.std.proofs.Common.{◌≡◌, ℕ, suc, ◌+◌, ◌/◌, ◌%◌, ◌<◌, ◌≤◌, false, [], ◌∷◌, ◌++◌, length, get_or, drop, Some, Ok, Err, Result, refl, ap, ap₂, subst, ◌∙◌, arith}
-use Rattle.std.specs.Fmt.{AppendsText, digits, digits_output, format_spec, padded_integral, radix_prefix, shown_prefix, styled_digits_output}
-use Rattle.std.specs.Option.{option_map}
-use Rattle.std.proofs.lemmas.Fmt as fmt
+use Rattle.std.proofs.Common.{◌≡◌, ℕ, suc, ◌+◌, ◌/◌, ◌%◌, ◌<◌, ◌≤◌, [], ◌∷◌, ◌++◌, length, get_or, drop, Some, Ok, Err, Result, refl, ap, ◌∙◌, arith}
 use Rattle.std.proofs.lemmas.List.{drop_more, drop_all, nil_from_length}
 use Rattle.std.proofs.lemmas.Grind.{common_steps}
 use Rattle.text.specs.declared.base16.HexError.{HexError}
@@ -54,8 +51,5 @@ pub unhex_none : (bs : Bytes) → length bs ≡ 0 → unhex bs ≡ Ok []
 unfolding unhex
 unhex_none bs h = ap unhex (nil_from_length bs h)
 
--- `{:02x}` writes the two digits of a byte
-pub two_digits : (d : _) (s : _) (b : ℕ) → digits_output d ≡ Some (digits 16 false b) → s ≡ format_spec 32 0 4 2 18446744073709551615 → b < 256 →
-    (old new : Bytes) → AppendsText old new (styled_digits_output d s) → new ≡ old ++ hex_digit (b / 16) ∷ hex_digit (b % 16) ∷ []
-two_digits d s b e f small old new h =
-    subst (AppendsText old new) (ap₂ (λ t o. option_map (padded_integral t false (shown_prefix t (radix_prefix d.base))) o) f e ∙ ap Some (fmt.hex_byte false b small)) h
+pub digit_small : (n : ℕ) → n < 16 → hex_digit n < 128
+digit_small n h = grind (arith, common_steps)
