@@ -1,4 +1,4 @@
 pub mod Texts
 pub mod Eaches
 pub mod Acting
-mod Stepping
+pub mod Stepping

@@ -13,8 +13,8 @@ use std::alloc::{AllocError, Global};
 use sums::Reading;
 
 impl Hut {
-    // Machine i does the act of its step.
-    fn act(
+    // Machine i does the act of its step, which left memory and bytes on the desk. Where there is no room for a text, it has not moved.
+    pub fn act(
         &mut self,
         heap: Global,
         desk: &mut Desk,

@@ -1,5 +1,7 @@
 -- What happens, as the definitions have it, at the machine that stands for a hut.
-use Rattle.std.proofs.Common.{◌≡◌, ℕ, zero, suc, ◌≤◌, Bool, true, false, List, [], ◌∷◌, length, Some, sym, refl, ap, ◌∙◌, arith}
+use Rattle.std.proofs.Common.{◌≡◌, ℕ, zero, suc, ◌≤◌, Bool, true, false, List, [], ◌∷◌, length, Some, None, Ok, Vec, inl, inr, sym, refl, ap, ◌∙◌, subst, arith}
+use Rattle.std.specs.Global.{Global}
+use Rattle.std.specs.declared.alloc.AllocError.{AllocError}
 use Rattle.std.proofs.lemmas.Bool.{both_ways}
 use Rattle.sums.specs.Sums.{each, none_of, Gauges}
 use Rattle.sums.proofs.Eaches.{length_each}
@@ -7,13 +9,19 @@ use Rattle.sums.proofs.Picks.{pick_both}
 use Rattle.machine.specs.Run as run
 use Rattle.machine.specs.Run.{machine, machine_at, set_nth, delivered, given, first_between, without_first, letter, nth_row, with_machine, one_step, goes, by_each, up_to}
 use Rattle.machine.specs.Entry.{own}
+use Rattle.machine.specs.Answers.{act_back}
+use Rattle.machine.specs.declared.Act.{Act}
+use Rattle.machine.specs.declared.Act.TheVariants as act
+use Rattle.rows.specs.declared.Row.{Row}
 use Rattle.promise.proofs.Induction.{goes_more}
-use Rattle.hut.specs.Played.{as_machine, told_next}
-use Rattle.hut.specs.Effects.{after, posted, Lasts, Turned}
+use Rattle.hut.specs.Played.{as_machine, told_next, StepDone}
+use Rattle.hut.specs.Effects.{after, posted, Lasts, Seen, Turned}
 use Rattle.hut.specs.declared.effect.Effect.{Effect}
 use Rattle.hut.specs.declared.effect.Effect.TheVariants.{Asked, Sought, Released, Sent, Kept, Recalled, Told, Rested, Fault}
-use Rattle.world.specs.Worlds.{Went}
+use Rattle.world.specs.declared.post.Letter.{Letter}
+use Rattle.world.specs.Worlds.{Went, HasRoom, MadeRoom}
 use Rattle.hut.specs.declared.hut.Hut.{Hut}
+use Rattle.hut.specs.declared.hut.Desk.{Desk}
 use Rattle.promise.proofs.Machines.{set_past}
 use Rattle.world.proofs.Huts.{huts_world, hut_past, set_same}
 use Rattle.world.proofs.Posting.{none_rest}
@@ -64,6 +72,34 @@ after_posted w i x x₁ Fault is l = rw (l, set_same w.machines i x is)
 pub went : (gs : Gauges) (w : run.World) (i : ℕ) (x x₁ : run.Machine) (f : Effect) → machine_at w.machines i ≡ x → Turned (nth_row gs i) i x x₁ (Some f) →
     posted (with_machine w i x₁) i f ≡ one_step own gs w i (machine_at w.machines i).pending
 went gs w i x x₁ f is t = after_posted w i x x₁ f is t.1 ∙ t.0 gs w refl is ∙ ap (λ y. one_step own gs w i y.pending) (sym is)
+
+-- a step without an act is of one that rests
+pub no_act : (m : List ℕ) (evs : List run.Event) (d : Desk) → StepDone m evs None d → evs ≡ []
+no_act m [] d s = refl
+no_act m (ev ∷ evs) d s = absurd s
+
+-- room that was made for an act is room for what is seen of it
+module _ (told told₁ : Vec Row Global) (wires wires₁ : Vec Letter Global) where
+  abbrev Roomy : Effect → Type 0
+  Roomy f = HasRoom f told₁ wires₁
+
+  pub room_seen : (a : Act) (out : List ℕ) (f : Effect) → MadeRoom {E = AllocError} a (Ok tt) told wires told₁ wires₁ → Seen (act_back a out) f → Roomy f
+  room_seen (act.Tells h k s) out f made (inl e) = subst Roomy (sym e) tt
+  room_seen (act.Tells h k s) out f made (inr e) = subst Roomy (sym e.1) made.0
+  room_seen (act.Sends j n) out f made (inl e) = subst Roomy (sym e) tt
+  room_seen (act.Sends j n) out f made (inr e) = subst Roomy (sym e.1) made.0
+  room_seen act.More out f made (inl e) = subst Roomy (sym e) tt
+  room_seen act.More out f made (inr e) = subst Roomy (sym e) tt
+  room_seen (act.From p) out f made (inl e) = subst Roomy (sym e) tt
+  room_seen (act.From p) out f made (inr e) = subst Roomy (sym e) tt
+  room_seen (act.LetGo p) out f made (inl e) = subst Roomy (sym e) tt
+  room_seen (act.LetGo p) out f made (inr e) = subst Roomy (sym e) tt
+  room_seen (act.Keep d n) out f made (inl e) = subst Roomy (sym e) tt
+  room_seen (act.Keep d n) out f made (inr e) = subst Roomy (sym e) tt
+  room_seen (act.Recall d) out f made (inl e) = subst Roomy (sym e) tt
+  room_seen (act.Recall d) out f made (inr e) = subst Roomy (sym e) tt
+  room_seen act.Rests out f made (inl e) = subst Roomy (sym e) tt
+  room_seen act.Rests out f made (inr e) = subst Roomy (sym e) tt
 
 module _ (gs : Gauges) (w : run.World) (i : ℕ) where
   pub goes_fault : (n : ℕ) → w.fault ≡ true → goes n own gs w i ≡ w

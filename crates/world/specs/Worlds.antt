@@ -1,14 +1,20 @@
 -- The world that is played, as one of the definitions.
-use Rattle.std.specs.Prelude.{◌≡◌, ℕ, Bool, true, false, List, [], ◌∷◌, ◌++◌, ◌<◌, vec_items, vec_len, vec_capacity}
+use Rattle.std.specs.Prelude.{◌≡◌, ℕ, Bool, true, false, List, [], ◌∷◌, ◌++◌, ◌<◌, Ok, OnOk, vec_items, vec_len, vec_capacity, Result, Vec}
 use Rattle.sums.specs.Sums.{each, Gauges}
 use Rattle.machine.specs.Run as run
 use Rattle.machine.specs.Entry.{own}
 use Rattle.machine.specs.Run.{machine_at, one_step, happened, all_happened, works, poke, brings, falls, calm}
+use Rattle.machine.specs.declared.Act.{Act}
+use Rattle.machine.specs.declared.Act.TheVariants.{Sends, Tells}
 use Rattle.rows.specs.Walls.{as_wall}
+use Rattle.rows.specs.declared.Row.{Row}
 use Rattle.river.specs.declared.model.Item.{Item}
 use Rattle.river.specs.declared.model.Item.TheVariants.{Works, Poke, Brings, Falls, Calm}
 use Rattle.world.specs.declared.world.World.{World}
+use Rattle.hut.specs.declared.effect.Effect.{Effect}
+use Rattle.hut.specs.declared.effect.Effect.TheVariants.{Sent, Told}
 use Rattle.hut.specs.Played.{as_machine}
+use Rattle.world.specs.declared.post.Letter.{Letter}
 use Rattle.world.specs.Posts.{as_letter}
 use Rattle.world.specs.Tallies.{all_counted}
 
@@ -20,9 +26,17 @@ as_world w = record {
   fault = w.fault;
 }
 
--- room for a row and for a letter
-abbrev pub HasRoom : World → Type 0
-HasRoom w = (vec_len w.told < vec_capacity w.told) × (vec_len w.wires < vec_capacity w.wires)
+-- room for what is seen of an act: a row on the wall, a letter on the wires
+abbrev pub HasRoom : {Z : Type 0} → Effect → Vec Row Z → Vec Letter Z → Type 0
+HasRoom (Told r) told wires = vec_len told < vec_capacity told
+HasRoom (Sent j t) told wires = vec_len wires < vec_capacity wires
+HasRoom _ told wires = Unit {0}
+
+-- room was made on the wall by an act that tells, on the wires by one that sends, and none was asked for by any other, so that there it can't have failed
+abbrev pub MadeRoom : {Z E : Type 0} → Act → Result (Unit {0}) E → Vec Row Z → Vec Letter Z → Vec Row Z → Vec Letter Z → Type 0
+MadeRoom (Tells h k s) r told wires told₁ wires₁ = OnOk r (vec_len told₁ < vec_capacity told₁) × (wires₁ ≡ wires)
+MadeRoom (Sends j n) r told wires told₁ wires₁ = OnOk r (vec_len wires₁ < vec_capacity wires₁) × (told₁ ≡ told)
+MadeRoom _ r told wires told₁ wires₁ = (r ≡ Ok tt) × (told₁ ≡ told) × (wires₁ ≡ wires)
 
 -- one step of a machine, where it does not rest
 abbrev pub Went : Gauges → run.World → ℕ → Bool → run.World → Type 0

@@ -6,14 +6,16 @@ ghost use Rattle.sums.specs.Readings.{as_row, as_gauges};
 ghost use Rattle.sums.specs.Sums.{none_of, or};
 ghost use Rattle.world.specs.Rounds.{pokes, letters_to, a_round, all_rounds, written_out};
 ghost use Rattle.world.specs.Tallies.{next_counted, acts_counted, all_counted};
-ghost use Rattle.world.specs.Worlds.{as_world, HasRoom, Went, took_place, Passed, CutShort};
+ghost use Rattle.world.specs.Worlds.{as_world, MadeRoom, Went, took_place, Passed, CutShort};
 
+use crate::post::Letter;
 use crate::tally::Kind;
 use crate::wires::{cut, take_letter};
 use crate::world::World;
 use hut::Pending;
-use machine::MACHINES;
+use machine::{Act, MACHINES};
 use river::Item;
+use rows::Row;
 use std::alloc::{AllocError, Global};
 use sums::Reading;
 
@@ -24,6 +26,20 @@ fn row_of(gauges: &[Vec<Reading>], i: u64) -> &[Reading]
     match gauges.get(i as usize) {
         Some(row) => row.as_slice(),
         None => &[],
+    }
+}
+
+// Room for what an act adds: a row on the wall, a letter on the wires. Where it adds neither, no memory is asked for.
+fn make_room(act: Act, told: &mut Vec<Row>, wires: &mut Vec<Letter>) -> Result<(), AllocError>
+    ensures told { told.new.items ≡ told.old.items }
+    ensures wires { wires.new.items ≡ wires.old.items }
+    ensures room { MadeRoom act result told.old wires.old told.new wires.new }
+{
+    match act {
+        Act::Tells(..) => told.reserve(1),
+        Act::Sends(..) => wires.reserve(1),
+        Act::More | Act::From(_) | Act::LetGo(_) | Act::Keep(..) | Act::Recall(_) | Act::Rests =>
+            Ok(()),
     }
 }
 
@@ -80,28 +96,8 @@ impl World {
         }
     }
 
-    // Room for a row and a letter.
-    fn make_room(&mut self) -> Result<(), AllocError>
-        ensures world { as_world self.new ≡ as_world self.old }
-        ensures counts { self.new.tally.counts ≡ self.old.tally.counts }
-        ensures room { OnOk result (HasRoom self.new) }
-    {
-        self.told.reserve(1)?;
-        self.wires.reserve(1)
-    }
-
     // One step of machine i and its act; false where it rests. Where there is no room for what comes of it, the machine has not moved.
     fn step(&mut self, heap: Global, gauges: &[Vec<Reading>], i: u64) -> Result<bool, AllocError>
-        ensures world { IfOk result (λ go. Went (as_gauges gauges.now) (as_world self.old) i go (as_world self.new)) }
-        ensures counts { OnOk result (self.old.fault ≡ false → self.new.tally.counts ≡ next_counted (as_gauges gauges.now) (as_world self.old) i (machine_at (as_world self.old).machines i).pending self.old.tally.counts) }
-        ensures unmoved { OnErr result ((as_world self.new ≡ as_world self.old) × (self.new.tally.counts ≡ self.old.tally.counts)) }
-    {
-        self.make_room()?;
-        self.turn(heap, gauges, i)
-    }
-
-    fn turn(&mut self, heap: Global, gauges: &[Vec<Reading>], i: u64) -> Result<bool, AllocError>
-        requires { HasRoom self.old }
         ensures world { IfOk result (λ go. Went (as_gauges gauges.now) (as_world self.old) i go (as_world self.new)) }
         ensures counts { OnOk result (self.old.fault ≡ false → self.new.tally.counts ≡ next_counted (as_gauges gauges.now) (as_world self.old) i (machine_at (as_world self.old).machines i).pending self.old.tally.counts) }
         ensures unmoved { OnErr result ((as_world self.new ≡ as_world self.old) × (self.new.tally.counts ≡ self.old.tally.counts)) }
@@ -109,10 +105,12 @@ impl World {
         let Some(hut) = self.huts.get_mut(i as usize) else {
             return Ok(false);
         };
-        let row = row_of(gauges, i);
-        let Some(effect) = hut.take_turn(heap, &mut self.desk, row, i)? else {
+        let Some(act) = hut.step(&mut self.desk) else {
             return Ok(false);
         };
+        make_room(act, &mut self.told, &mut self.wires)?;
+        let row = row_of(gauges, i);
+        let effect = hut.act(heap, &mut self.desk, row, i, act)?;
         let kind = Kind::from(&effect);
         self.post(i, effect);
         self.tally.count(kind);

@@ -49,7 +49,7 @@ impl World {
 
     // What is seen of an act of machine i: a row goes on the wall, a letter on the wires.
     pub(crate) fn post(&mut self, i: u64, effect: Effect)
-        requires { HasRoom self.old }
+        requires { HasRoom effect self.old.told self.old.wires }
         ensures world { as_world self.new ≡ posted (as_world self.old) i effect }
         ensures counts { self.new.tally.counts ≡ self.old.tally.counts }
     {

@@ -3,6 +3,7 @@
 
 #[cfg(test)]
 mod tests {
+    use hut::{Desk, Effect, Hut};
     use river::{Item, parse};
     use std::alloc::Global;
     use std::process::Abort;
@@ -87,6 +88,21 @@ mod tests {
         let gauges = two_hours(heap, 4096, 4097)?;
         let world = played(heap, gauges.as_slice(), 4098, 4122)?;
         check_wall(&rt, heap, gauges.as_slice(), &world)
+    }
+
+    // A machine that wakes steps, and its act is done.
+    #[test]
+    fn an_act_is_done(rt: HostRuntime) -> Result<(), Fail> {
+        let heap = rt.alloc();
+        let mut desk = Desk::new(heap)?;
+        let mut hut = Hut::new(heap, 0)?;
+        let Some(act) = hut.step(&mut desk) else {
+            return Err(Fail::new("it does not rest"));
+        };
+        let effect = hut.act(heap, &mut desk, &[], 0, act)?;
+        assert!(rt; matches!(effect, Effect::Recalled(_)));
+        assert!(rt; !hut.rests());
+        Ok(())
     }
 
     // Each of the first acts of boot, reading, telling and keeping.
