@@ -6,16 +6,16 @@ ghost use Rattle.player_args.specs.Asked.{asked};
 ghost use Rattle.player_args.specs.Progress.{without_progress};
 ghost use Rattle.commands.specs.Done.{Does};
 
-use anyhow::anyhow;
 use player_args::{ArgsError, Command};
 use report::{Progress, print_sums, read_river};
 use status::Failure;
+use std::alloc::Global;
 use std::io::{Read, Write};
 
 // The word that is refused, where it is one, and why.
-fn refused(words: &[String], error: ArgsError) -> Failure {
+fn refused(heap: Global, words: &[String], error: ArgsError) -> Failure {
     match error.word().and_then(|at| words.get(at)) {
-        Some(word) => Failure::Refused(anyhow!("`{word}`: {error}")),
+        Some(word) => Failure::refused_with(heap, format_args!("`{word}`: {error}")),
         None => Failure::refused(error),
     }
 }
@@ -31,7 +31,8 @@ pub fn run<R: Read, W: Write>(
 {
     let (progress, words) = player_args::progress_of(words);
     let mut progress = Progress::new(rt, progress)?;
-    match player_args::command_of(rt.alloc(), words).map_err(|error| refused(words, error))? {
+    let heap = rt.alloc();
+    match player_args::command_of(heap, words).map_err(|error| refused(heap, words, error))? {
         Command::Help => {
             let usage = player_args::USAGE;
             writeln!(out, "{usage}")?;

@@ -272,6 +272,28 @@ untold: hour 2 place 3: 5
         Ok(())
     }
 
+    // However long a name is, the line and the reason are told behind it.
+    #[test]
+    fn a_long_name(rt: HostRuntime) -> Result<(), Fail> {
+        let heap = rt.alloc();
+        let name = "y".repeat(heap, 200)?;
+        let name = name.as_str();
+        let wanted = format!(in heap; "error: {name}/river, line 2: there is no such place")?;
+        assert_eq!(rt;
+            run(&rt, name, "gauge 0\n10 1024 4\n", "sums FILE")?.as_str(),
+            wanted.as_str()
+        );
+        let line = format!(in heap; "sums {name}/none")?;
+        let wanted = format!(in heap;
+            "error: {name}/none cannot be read: No such file or directory (os error 2)"
+        )?;
+        assert_eq!(rt;
+            run(&rt, name, "", line.as_str())?.as_str(),
+            wanted.as_str()
+        );
+        Ok(())
+    }
+
     #[test]
     fn help(rt: HostRuntime) -> Result<(), Fail> {
         let printed = run(&rt, "help", "", "--help")?;

@@ -8,6 +8,7 @@ ghost use Rattle.report.specs.Printed.{IsFrom, TellsOf, status_by};
 use anyhow::anyhow;
 use river::{InFile, Mistake, River};
 use status::Failure;
+use std::alloc::Global;
 use std::fs;
 use std::io::Read;
 
@@ -22,9 +23,10 @@ fn read<R: Read>(rt: &HostRuntime, input: &mut R, file: &str) -> Result<String, 
         )))?;
         return Ok(text);
     }
-    fs::read_to_string(rt, file).map_err(|error| Failure::refused(anyhow!(
-        "{file} cannot be read: {error}"
-    )))
+    fs::read_to_string(rt, file).map_err(|error| Failure::refused_with(
+        rt.alloc(),
+        format_args!("{file} cannot be read: {error}"),
+    ))
 }
 
 // How the file is called in what is said.
@@ -36,7 +38,7 @@ fn named(file: &str) -> &str {
 }
 
 // A text that is no river, unless the memory ended.
-fn failure_of(file: &str, text: &str, mistake: Mistake) -> Failure
+fn failure_of(heap: Global, file: &str, text: &str, mistake: Mistake) -> Failure
     ensures { status_of result ≡ status_by mistake }
 {
     let file = named(file);
@@ -45,10 +47,9 @@ fn failure_of(file: &str, text: &str, mistake: Mistake) -> Failure
         text,
         mistake,
     };
-    let error = anyhow!("{said}");
     match mistake {
-        Mistake::Line(..) => Failure::Refused(error),
-        Mistake::Memory => Failure::Wrong(error),
+        Mistake::Line(..) => Failure::refused_with(heap, said),
+        Mistake::Memory => Failure::wrong_with(heap, said),
     }
 }
 
@@ -57,7 +58,8 @@ pub fn read_river<R: Read>(rt: &HostRuntime, input: &mut R, file: &str) -> Resul
     ensures fine { IfOk result RiverFine }
     ensures told { IfOk result (λ r. TellsOf file.now (R.remaining input.old) (as_told r)) }
 {
+    let heap = rt.alloc();
     let text = read(rt, input, file)?;
     let text = text.as_str();
-    river::parse(rt.alloc(), text).map_err(|mistake| failure_of(file, text, mistake))
+    river::parse(heap, text).map_err(|mistake| failure_of(heap, file, text, mistake))
 }

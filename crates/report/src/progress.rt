@@ -1,5 +1,5 @@
 // How far something long is, on standard error.
-ghost use Rattle.std.specs.Prelude.{◌≡◌, ◌*◌, ◌-◌, ◌/◌, min, MatchOption, OnOk};
+ghost use Rattle.std.specs.Prelude.{◌≡◌, ◌*◌, ◌-◌, ◌/◌, min, not, MatchOption, OnOk};
 ghost use Rattle.std.specs.Io.KnownBytes.{Keeps};
 
 use std::io;
@@ -48,6 +48,13 @@ impl<'a> Progress<'a> {
         })
     }
 
+    // Nothing is said, whatever is done.
+    pub fn is_silent(&self) -> bool
+        ensures { result ≡ not self.now.said }
+    {
+        !self.said
+    }
+
     // From now on so many of these are done, one after the other.
     pub fn begin(&mut self, of: u64, what: &'a str) -> io::Result<()> {
         self.start = Instant::now(self.rt)?;
@@ -86,7 +93,7 @@ impl<'a> Progress<'a> {
     fn say<W: Write>(&mut self, out: &mut W) -> io::Result<()>
         ensures { OnOk result (Keeps (W.contents out.old) (W.contents out.new)) }
     {
-        if !self.said {
+        if self.is_silent() {
             return Ok(());
         }
         let seconds = self.start.elapsed(self.rt)?.as_secs();

@@ -5,9 +5,9 @@ ghost use Rattle.std.specs.Prelude.{◌≡◌, IfErr, Some, OnOk, map, string_by
 ghost use Rattle.std.specs.Io.KnownBytes.{Appends};
 ghost use Rattle.std.specs.Process.{exit_status};
 ghost use Rattle.std.specs.IoError.{error_kind};
-ghost use Rattle.status.specs.Endings.{CameOf, IsWrong, Refuses, asks_version, said_of, status_of, version_line};
+ghost use Rattle.status.specs.Endings.{CameOf, IsWrong, Refuses, Says, asks_version, said_of, status_of, version_line};
 
-use std::alloc::{AllocError, AllocFailed};
+use std::alloc::{AllocError, AllocFailed, Global};
 use std::io::{ErrorKind, Write};
 use std::process::ExitCode;
 use std::{fmt, io};
@@ -22,6 +22,9 @@ pub enum Failure {
     Refused(anyhow::Error),
     // A wall that is not right, a fault, something untold that should be told, or work that could not be done. Status 1.
     Wrong(anyhow::Error),
+    // The same two, said in a text of any length: an error holds a short one.
+    RefusedWith(String),
+    WrongWith(String),
     // Nobody reads the output any more. Nothing is said, status 0.
     Closed,
 }
@@ -41,13 +44,36 @@ impl Failure {
         Failure::Wrong(error.into())
     }
 
+    // Refused, and what is said of it is whole, unless there is no room for a text of it.
+    pub fn refused_with<M: fmt::Display + Drop>(heap: Global, said: M) -> Failure
+        ensures status { status_of result ≡ 2 }
+        ensures text { Says (M.output said) result }
+    {
+        match said.to_string(heap) {
+            Ok(text) => Failure::RefusedWith(text),
+            Err(_) => Failure::Refused(anyhow::Error::msg(said)),
+        }
+    }
+
+    // Wrong, and what is said of it is whole, unless there is no room for a text of it.
+    pub fn wrong_with<M: fmt::Display + Drop>(heap: Global, said: M) -> Failure
+        ensures status { status_of result ≡ 1 }
+        ensures text { Says (M.output said) result }
+    {
+        match said.to_string(heap) {
+            Ok(text) => Failure::WrongWith(text),
+            Err(_) => Failure::Wrong(anyhow::Error::msg(said)),
+        }
+    }
+
     // The status that it stands for.
     pub fn code(&self) -> u8
         ensures { result ≡ status_of self.now }
     {
         match self {
             Failure::Refused(_) => 2,
-            Failure::Wrong(_) => 1,
+            Failure::RefusedWith(_) => 2,
+            Failure::Wrong(_) | Failure::WrongWith(_) => 1,
             Failure::Closed => 0,
         }
     }
@@ -59,6 +85,7 @@ impl fmt::Display for Failure {
     fn fmt<W: fmt::Write>(&self, f: &mut fmt::Formatter<W>) -> fmt::Result {
         match self {
             Failure::Refused(error) | Failure::Wrong(error) => write!(f, "{error}"),
+            Failure::RefusedWith(text) | Failure::WrongWith(text) => f.write_str(text.as_str()),
             Failure::Closed => f.write_str("nobody reads the output"),
         }
     }

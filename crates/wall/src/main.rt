@@ -24,5 +24,5 @@ fn run(rt: &HostRuntime) -> Result<(), Failure> {
     } else {
         wall_printer::run(rt, words, &mut rt.stdin(), &mut out)?;
     }
-    Ok(out.flush()?)
+    out.flush().map_err(|error| wall_printer::unwritten(error))
 }

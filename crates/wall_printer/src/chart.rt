@@ -1,4 +1,5 @@
-// A chart, a line for each mark, written at once.
+// A chart, a line for each mark.
+use crate::output::unwritten;
 use rows::Row;
 use status::Failure;
 use std::fmt;
@@ -34,10 +35,9 @@ pub fn print_chart<W: Write>(rt: &HostRuntime, out: &mut W, rows: &[Row]) -> Res
         Some(Row { hour, .. }) => format!(in heap; "{hour}")?.len(),
         None => 0,
     };
-    let mut text = String::new(heap);
     for &mark in marks.iter() {
         let drawn = Drawn { mark, columns };
-        writeln!(text, "{drawn}")?;
+        writeln!(out, "{drawn}").map_err(unwritten)?;
     }
-    Ok(write!(out, "{text}")?)
+    Ok(())
 }

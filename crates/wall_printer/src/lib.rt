@@ -2,6 +2,8 @@
 #![tactic(auto)]
 
 mod chart;
+mod output;
 mod program;
 
+pub use output::unwritten;
 pub use program::run;

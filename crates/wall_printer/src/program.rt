@@ -6,6 +6,7 @@ ghost use Rattle.status.specs.Endings.{status_of};
 ghost use Rattle.wall_printer.specs.Printed.{Shows, Does, status_by};
 
 use crate::chart::print_chart;
+use crate::output::unwritten;
 use anyhow::anyhow;
 use rows::Row;
 use status::Failure;
@@ -47,11 +48,11 @@ pub fn run<R: Read, W: Write>(
         Ok(request) => request,
         Err(Misuse { word, complaint }) => {
             let word = nth(heap, words, word);
-            return Err(Failure::Refused(anyhow!("{word}: {complaint}")));
+            return Err(Failure::refused_with(heap, format_args!("{word}: {complaint}")));
         }
     };
     if request.help {
-        return Ok(write!(out, "{USAGE}")?);
+        return write!(out, "{USAGE}").map_err(unwritten);
     }
     let name = input_name(heap, words, request.file)?;
     let text = match request.file {
@@ -60,13 +61,13 @@ pub fn run<R: Read, W: Write>(
     };
     let rows = match wall_reader::read(heap, text.as_str()) {
         Ok(rows) => rows,
-        Err(mistake) => return Err(failure_of(name.as_str(), mistake)),
+        Err(mistake) => return Err(failure_of(heap, name.as_str(), mistake)),
     };
-    let some = chosen(heap, rows.as_slice(), &request.filter)?;
-    print_rows(rt, out, some.as_slice(), request.form)?;
     if is_torn(text.as_bytes()) {
         let _ = eprintln!(rt; "wall: {TORN}");
     }
+    let some = chosen(heap, rows.as_slice(), &request.filter)?;
+    print_rows(rt, out, some.as_slice(), request.form)?;
     Ok(())
 }
 
@@ -83,7 +84,7 @@ fn print_rows<W: Write>(
         Form::Csv => csv_text(rt.alloc(), rows)?,
         Form::Chart => return print_chart(rt, out, rows),
     };
-    Ok(write!(out, "{shown}")?)
+    write!(out, "{shown}").map_err(unwritten)
 }
 
 // The word with this number, and nothing where there is none.
@@ -100,20 +101,21 @@ fn input_name(heap: Global, words: Vec<String>, file: Option<usize>) -> Result<S
 }
 
 // A line that is no row is refused; two sums of one hour and place are a wall that is wrong.
-fn failure_of(name: &str, mistake: WallMistake) -> Failure
+fn failure_of(heap: Global, name: &str, mistake: WallMistake) -> Failure
     ensures { status_of result ≡ status_by mistake }
 {
-    let said = anyhow!("{name}, {mistake}");
+    let said = format_args!("{name}, {mistake}");
     match mistake {
-        WallMistake::Line(..) => Failure::Refused(said),
-        WallMistake::Contradiction { .. } | WallMistake::Memory => Failure::Wrong(said),
+        WallMistake::Line(..) => Failure::refused_with(heap, said),
+        WallMistake::Contradiction { .. } | WallMistake::Memory => Failure::wrong_with(heap, said),
     }
 }
 
 fn read_file(rt: &HostRuntime, path: &str) -> Result<String, Failure> {
-    fs::read_to_string(rt, path).map_err(|error| Failure::Refused(anyhow!(
-        "{path} cannot be read: {error}"
-    )))
+    fs::read_to_string(rt, path).map_err(|error| Failure::refused_with(
+        rt.alloc(),
+        format_args!("{path} cannot be read: {error}"),
+    ))
 }
 
 fn read_input<R: Read>(heap: Global, input: &mut R) -> Result<String, Failure>

@@ -3,8 +3,9 @@
 
 #[cfg(test)]
 mod tests {
-    use std::fs;
+    use std::io::{ErrorKind, Write};
     use std::test::Fail;
+    use std::{fs, io};
 
     const WALL: &str = "hour 9 place 1: 12
 hour 3 place 2: 7
@@ -12,6 +13,42 @@ hour 10 place 1: 24
 hour 9 place 1: 12
 hour 8 place 1: 0
 ";
+
+    // Where nothing can be written, for this reason.
+    #[derive(Drop)]
+    struct Unwritable(ErrorKind);
+
+    impl Write for Unwritable {
+        fn write(&mut self, _bytes: &[u8]) -> io::Result<usize> {
+            Err(io::Error::from(self.0))
+        }
+
+        fn flush(&mut self) -> io::Result<()> {
+            Ok(())
+        }
+    }
+
+    // The words of a text.
+    fn list(rt: &HostRuntime, words: &str) -> Result<Vec<String>, Fail> {
+        let heap = rt.alloc();
+        let mut list = Vec::new(heap);
+        for word in words.split_whitespace() {
+            list.push(format!(in heap; "{word}")?)?;
+        }
+        Ok(list)
+    }
+
+    // What the program says for these words, of a wall of one row, where nothing can be written.
+    fn unwritten(rt: &HostRuntime, words: &str, why: ErrorKind) -> Result<String, Fail> {
+        let mut input: &[u8] = b"hour 1 place 1: 5\n";
+        match wall_printer::run(rt, list(rt, words)?, &mut input, &mut Unwritable(why)) {
+            Ok(()) => Err(Fail::new("nothing can be written, and nothing is said")),
+            Err(failure) => {
+                let code = failure.code();
+                Ok(format!(in rt.alloc(); "{code}: {failure}")?)
+            }
+        }
+    }
 
     // What the program prints for these words, with the wall as its input.
     fn printed(rt: &HostRuntime, words: &str, wall: &str) -> Result<String, Fail> {
@@ -21,13 +58,9 @@ hour 8 place 1: 0
     // The same of a wall of any bytes.
     fn printed_of(rt: &HostRuntime, words: &str, wall: &[u8]) -> Result<String, Fail> {
         let heap = rt.alloc();
-        let mut list = Vec::new(heap);
-        for word in words.split_whitespace() {
-            list.push(format!(in heap; "{word}")?)?;
-        }
         let mut out = Vec::new(heap);
         let mut input = wall;
-        match wall_printer::run(rt, list, &mut input, &mut out) {
+        match wall_printer::run(rt, list(rt, words)?, &mut input, &mut out) {
             Ok(()) => Ok(String::from_utf8(out)?),
             Err(failure) => Ok(format!(in heap; "refused: {failure}")?),
         }
@@ -99,6 +132,57 @@ hour 10 place 1: 24
                 .as_str()
                 .starts_with("refused: no-wall cannot be read: ")
         );
+        Ok(())
+    }
+
+    // However long a name is, the line and the reason are told behind it.
+    #[test]
+    fn a_long_name(rt: HostRuntime) -> Result<(), Fail> {
+        let heap = rt.alloc();
+        let name = "y".repeat(heap, 200)?;
+        let name = name.as_str();
+        fs::write(&rt, name, "hour 1 place 2: 5\nhour 1 place 2: 6\n")?;
+        assert_eq!(rt;
+            printed(&rt, name, WALL)?.as_str(),
+            format!(in heap;
+                "refused: {name}, line 2: hour 1 place 2 is 6 here and 5 above"
+            )?.as_str()
+        );
+        fs::write(&rt, name, "hour 1 place 2: 5\nhour 1\n")?;
+        assert_eq!(rt;
+            printed(&rt, name, WALL)?.as_str(),
+            format!(in heap;
+                "refused: {name}, line 2: a row is `hour H place P: S`, and here are too few words"
+            )?.as_str()
+        );
+        fs::remove_file(&rt, name)?;
+        assert_eq!(rt;
+            printed(&rt, name, WALL)?.as_str(),
+            format!(in heap;
+                "refused: {name} cannot be read: No such file or directory (os error 2)"
+            )?.as_str()
+        );
+        let word = format!(in heap; "--{name}")?;
+        assert_eq!(rt;
+            printed(&rt, word.as_str(), WALL)?.as_str(),
+            format!(in heap; "refused: {word}: there is no such option")?.as_str()
+        );
+        Ok(())
+    }
+
+    #[test]
+    fn nothing_can_be_written(rt: HostRuntime) -> Result<(), Fail> {
+        for words in ["", "--csv", "--chart", "--help"] {
+            assert_eq!(rt;
+                unwritten(&rt, words, ErrorKind::StorageFull)?.as_str(),
+                "1: the rows cannot be written: no storage space"
+            );
+            assert!(rt;
+                unwritten(&rt, words, ErrorKind::BrokenPipe)?
+                    .as_str()
+                    .starts_with("0: ")
+            );
+        }
         Ok(())
     }
 
