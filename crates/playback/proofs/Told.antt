@@ -76,17 +76,21 @@ module _ (gs : Gauges) (rows : Bool) where
   plays_as w w₁ xs ys a b e p = record { world = p.world ∙ e; more = p.more; told = p.told; shown = p.shown }
 
   -- one thing that happens at once, and the rows that were told since
-  pub plays_item : (w w₁ : run.World) (it : Item) (before after : List Row) (a b c : Option Bytes) → w₁ ≡ took_place gs w it → w.told ≡ as_wall before → w₁.told ≡ as_wall after →
-      (rows ≡ true → Appends a b (wall_text (as_wall (drop (length before) after)))) → Keeps b c → PlaysOn gs rows w (written_out it) w₁ a c
-  plays_item w w₁ it before after a b c e f g p k =
+  pub plays_item : (w w₁ : run.World) (it : Item) (before after : List Row) (a b : Option Bytes) → w₁ ≡ took_place gs w it → w.told ≡ as_wall before → w₁.told ≡ as_wall after →
+      (rows ≡ true → Appends a b (wall_text (as_wall (drop (length before) after)))) → PlaysOn gs rows w (written_out it) w₁ a b
+  plays_item w w₁ it before after a b e f g p =
       let on = item_on gs w w₁ it e in
       let same : as_wall after ≡ as_wall before ++ on.0 = sym g ∙ on.1 ∙ ap (λ ts. ts ++ on.0) f in
       record {
         world = e ∙ took_written gs w it;
         more = on.0;
         told = on.1;
-        shown = λ r. Appends-kept a b c _ (subst (λ ts. Appends a b (wall_text ts)) (rest_is before after on.0 same) (p r)) k;
+        shown = λ r. subst (λ ts. Appends a b (wall_text ts)) (rest_is before after on.0 same) (p r);
       }
+
+  -- nothing is printed behind it
+  pub plays_kept : (w w₁ : run.World) (its : List run.Item) (a b c : Option Bytes) → PlaysOn gs rows w its w₁ a b → Keeps b c → PlaysOn gs rows w its w₁ a c
+  plays_kept w w₁ its a b c p k = record { world = p.world; more = p.more; told = p.told; shown = λ r. Appends-kept a b c _ (p.shown r) k }
 
   -- the next of these items
   pub plays_more : (w w₁ w₂ : run.World) (its : List Item) (i : ℕ) (d : Item) (a b c : Option Bytes) → i < length its →

@@ -2,8 +2,13 @@
 ghost use Rattle.std.specs.Prelude.{◌≡◌, true, false, IfOk, OnOk, vec_len};
 ghost use Rattle.std.specs.Io.KnownBytes.{Appends};
 ghost use Rattle.sums.specs.Readings.{as_gauges};
+ghost use Rattle.sums.specs.Sums.{gauges_fine};
+ghost use Rattle.machine.specs.Entry.{own};
+ghost use Rattle.machine.specs.Run.{new_world};
+ghost use Rattle.promise.specs.Promise.{Safe};
+ghost use Rattle.world.specs.Tallies.{none_counted, all_counted};
 ghost use Rattle.world.specs.Worlds.{as_world};
-ghost use Rattle.play.specs.Plays.{played};
+ghost use Rattle.play.specs.Plays.{unrolled, played};
 ghost use Rattle.play.specs.Trials.{readings_after};
 ghost use Rattle.play.specs.Verdicts.{AreUntold, verdict_of};
 ghost use Rattle.rows.specs.Walls.{as_wall, wrong_rows};
@@ -83,19 +88,40 @@ fn play_timed<W: Write>(
     out: &mut W,
     progress: &mut Progress<'_>,
     river: &River,
-) -> Result<(), Failure> {
+) -> Result<(), Failure>
+    ensures { OnOk result (is_well (verdict_of (as_gauges river.now.gauges.items) (played (as_gauges river.now.gauges.items) river.now.items.items)) ≡ true) }
+{
     let heap = rt.alloc();
     let gauges = river.gauges.as_slice();
     let items = river.items.as_slice();
     let start = Instant::now(rt)?;
-    let mut world = World::new(heap)?;
-    Stage::new(rt, gauges, items, false).play(out, progress, &mut world, items)?;
+    let world = play_whole(rt, out, progress, gauges, items)?;
     let stepping = start.elapsed(rt)?;
     print_rows(out, world.told.as_slice())?;
     let judgement = judge(heap, gauges, &world)?;
     print_untold(out, judgement.comparison.untold.as_slice())?;
     stats::print(rt, out, river, &world, stepping)?;
     summary(out, gauges, &world, &judgement)
+}
+
+// Plays all that happens, and prints no row.
+fn play_whole<W: Write>(
+    rt: &HostRuntime,
+    out: &mut W,
+    progress: &mut Progress<'_>,
+    gauges: &[Vec<Reading>],
+    items: &[Item],
+) -> Result<World, Failure>
+    ensures world { IfOk result (λ w. as_world w ≡ played (as_gauges gauges.now) items.now) }
+    ensures counts { IfOk result (λ w. progress.old.said ≡ false → w.tally.counts ≡ all_counted (as_gauges gauges.now) (new_world own) (unrolled items.now) none_counted) }
+    ensures right { IfOk result (λ w. gauges_fine (as_gauges gauges.now) ≡ true → Safe (as_gauges gauges.now) (as_world w)) }
+{
+    if progress.is_silent() {
+        return Ok(play::play(rt.alloc(), gauges, items)?);
+    }
+    let mut world = World::new(rt.alloc())?;
+    Stage::new(rt, gauges, items, false).play(out, progress, &mut world, items)?;
+    Ok(world)
 }
 
 // Plays all that happens, and prints the rows as they are told.

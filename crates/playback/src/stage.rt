@@ -97,7 +97,16 @@ impl<'a> Stage<'a> {
         Ok(())
     }
 
-    // One thing that happens at once.
+    // One thing that happens at once, and the rows that are told meanwhile.
+    fn line<W: Write>(&self, out: &mut W, world: &mut World, item: Item) -> Result<(), Failure>
+        ensures { OnOk result (PlaysOn (as_gauges self.now.gauges.now) self.now.rows (as_world world.old) (written_out item) (as_world world.new) (W.contents out.old) (W.contents out.new)) }
+    {
+        let shown = world.told.len();
+        world.happen(self.rt.alloc(), self.gauges, item)?;
+        self.show(out, world.told.as_slice(), shown)
+    }
+
+    // The same, and then how far it is.
     fn portion<W: Write>(
         &self,
         out: &mut W,
@@ -107,9 +116,7 @@ impl<'a> Stage<'a> {
     ) -> Result<(), Failure>
         ensures { OnOk result (PlaysOn (as_gauges self.now.gauges.now) self.now.rows (as_world world.old) (written_out item) (as_world world.new) (W.contents out.old) (W.contents out.new)) }
     {
-        let shown = world.told.len();
-        world.happen(self.rt.alloc(), self.gauges, item)?;
-        self.show(out, world.told.as_slice(), shown)?;
+        self.line(out, world, item)?;
         self.tell(out, progress, world)
     }
 
@@ -182,7 +189,7 @@ impl<'a> Stage<'a> {
         Ok(())
     }
 
-    // One thing that happens.
+    // One thing that happens; at once, where nothing is said meanwhile.
     fn happen<W: Write>(
         &self,
         out: &mut W,
@@ -192,6 +199,9 @@ impl<'a> Stage<'a> {
     ) -> Result<(), Failure>
         ensures { OnOk result (PlaysOn (as_gauges self.now.gauges.now) self.now.rows (as_world world.old) (written_out item) (as_world world.new) (W.contents out.old) (W.contents out.new)) }
     {
+        if progress.is_silent() {
+            return self.line(out, world, item);
+        }
         match item {
             Item::Calm(rounds, acts) => self.calm(out, progress, world, rounds, acts),
             _ => self.turn(out, progress, world, item),

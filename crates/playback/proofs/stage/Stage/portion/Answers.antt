@@ -1,28 +1,13 @@
-use Rattle.std.proofs.Common.{refl, ◌∙◌, ap₂, subst, drop, arith}
-use Rattle.std.specs.Io.KnownBytes.{Appends}
 use Rattle.sums.specs.Readings.{as_gauges}
-use Rattle.rows.specs.Walls.{as_wall}
+use Rattle.world.specs.Rounds.{written_out}
 use Rattle.world.specs.Worlds.{as_world}
-use Rattle.report.specs.Printed.{wall_text}
 use Rattle.report.proofs.Oks.{on_ok}
-use Rattle.playback.proofs.Told.{item_on, still_there, plays_item}
+use Rattle.playback.proofs.Told.{plays_kept}
 use Rattle.playback.proofs.stage.Stage.portion.Goals as goal
-
-pub show-requires : goal.show-requires
-show-requires g c =
-    let w = c.args.world.now in
-    let u = c.happen.new.self in
-    let there = still_there w.told.items u.told.items (item_on (as_gauges c.args.self.now.gauges.now) (as_world w) (as_world u) c.args.item c.in_ok-happen.ensures.world) in
-    omega (arith, there, c.len-shown.ensures, w.told.ok.0, c.as_slice.ensures.len, u.told.ok.0)
 
 pub returns : goal.returns
 returns g c =
-    let w = c.args.world.now in
-    let u = c.happen.new.self in
-    let a = g.W.Write.contents c.args.out.now in
-    let b = g.W.Write.contents c.show.new.out in
-    let d = g.W.Write.contents c.tell.new.out in
     on_ok c.tell.result _ _
-    (plays_item (as_gauges c.args.self.now.gauges.now) c.args.self.now.rows (as_world w) (as_world u) c.args.item w.told.items u.told.items a b d c.in_ok-happen.ensures.world refl refl
-    (λ r. subst (λ rs. Appends a b (wall_text (as_wall rs))) (ap₂ drop (c.len-shown.ensures ∙ w.told.ok.0) c.as_slice.ensures.value) (c.in_ok-show.ensures r)))
+    (plays_kept (as_gauges c.args.self.now.gauges.now) c.args.self.now.rows (as_world c.args.world.now) (as_world c.line.new.world) (written_out c.args.item) (g.W.Write.contents c.args.out.now)
+    (g.W.Write.contents c.line.new.out) (g.W.Write.contents c.tell.new.out) c.in_ok-line.ensures)
     c.tell.ensures
