@@ -13,6 +13,11 @@ use std::{fs, io};
 // A drawer's bytes with their checksum.
 const MOST: u64 = (HEAD + LETTER) as u64;
 
+// What is said of a file that has more, as a drawer and as what is released.
+const NO_DRAWER: &str = "is no drawer: it has more than 4096 bytes";
+
+const NO_NUMBER: &str = "does not hold one number";
+
 #[derive(Drop)]
 pub struct Disk {
     folder: String,
@@ -78,20 +83,18 @@ impl Disk {
         let folder = self.folder.as_str();
         let name = drawer_name(heap, drawer)?;
         let path = format!(in heap; "{folder}/{name}")?;
-        let Some(file) = read(rt, path.as_str())? else {
+        let Some(file) = read(rt, path.as_str(), NO_DRAWER)? else {
             return Ok(Text::empty(heap));
         };
         let bytes = unseal(file.as_slice()).map_err(|error| anyhow!("{path} {error}"))?;
-        Text::new(heap, bytes)?.ok_or_else(|| anyhow!(
-            "{path} is no drawer: it has more than 4096 bytes"
-        ))
+        Text::new(heap, bytes)?.ok_or_else(|| anyhow!("{path} {NO_DRAWER}"))
     }
 
     fn released(&self, rt: &HostRuntime) -> anyhow::Result<u64> {
         let heap = rt.alloc();
         let folder = self.folder.as_str();
         let path = format!(in heap; "{folder}/released")?;
-        let Some(file) = read(rt, path.as_str())? else {
+        let Some(file) = read(rt, path.as_str(), NO_NUMBER)? else {
             return Ok(0);
         };
         released_in(file.as_slice()).map_err(|error| anyhow!("{path} {error}"))
@@ -135,15 +138,12 @@ impl Disk {
     }
 }
 
-// The bytes of a file; none where there is no such file.
-fn read(rt: &HostRuntime, path: &str) -> anyhow::Result<Option<Vec<u8>>> {
+// The bytes of a file; none where there is no such file. One of too many bytes is refused unread, with these words.
+fn read(rt: &HostRuntime, path: &str, too_long: &str) -> anyhow::Result<Option<Vec<u8>>> {
     let Some(file) = find_plain(rt, path)? else {
         return Ok(None);
     };
-    ensure!(
-        file.bytes <= MOST,
-        "{path} is no drawer: it has more than 4096 bytes"
-    );
+    ensure!(file.bytes <= MOST, "{path} {too_long}");
     match fs::read(rt, path) {
         Ok(bytes) => Ok(Some(bytes)),
         Err(error) => Err(anyhow!("{path} cannot be read: {error}")),

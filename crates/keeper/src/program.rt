@@ -1,8 +1,8 @@
 // The program `station`: what it is asked, and a machine that works and hears till its wires end.
 use crate::options::{Options, Request, UsageError};
 use crate::station::Station;
-use anyhow::anyhow;
 use status::Failure;
+use std::alloc::Global;
 use std::io::{BufRead, Write};
 
 const USAGE: &str = "usage: station MACHINE --drawers DIR --gauge FILE --wall FILE
@@ -21,12 +21,12 @@ It works till it rests, then after each line, and ends with its input.
 It may be killed at any moment and started again on the same files.";
 
 // An option that there is not is said with its word.
-fn refused(words: &[String], error: UsageError) -> Failure {
+fn refused(heap: Global, words: &[String], error: UsageError) -> Failure {
     let UsageError::UnknownOption(behind) = error else {
         return Failure::refused(error);
     };
     match words.iter().rev().nth(behind) {
-        Some(word) => Failure::Refused(anyhow!("`{word}`: {error}")),
+        Some(word) => Failure::refused_with(heap, format_args!("`{word}`: {error}")),
         None => Failure::refused(error),
     }
 }
@@ -39,7 +39,8 @@ pub fn run<B: BufRead + Drop, W: Write>(
     out: &mut W,
 ) -> Result<(), Failure> {
     let given = words.clone()?;
-    match Request::read(words).map_err(|error| refused(given.as_slice(), error))? {
+    let heap = rt.alloc();
+    match Request::read(words).map_err(|error| refused(heap, given.as_slice(), error))? {
         Request::Help => {
             writeln!(out, "{USAGE}")?;
             Ok(())

@@ -182,8 +182,8 @@ impl Crew {
         Ok(left)
     }
 
-    // All work till the station has done so many turns, or for some rounds; then it is let go of.
-    pub fn strike(&mut self, rt: &HostRuntime, i: usize, turns: u64) -> Result<(), Failure> {
+    // All work till the station has done so many turns, or for some rounds; then it is let go of. How many turns it had left.
+    pub fn strike(&mut self, rt: &HostRuntime, i: usize, turns: u64) -> Result<u64, Failure> {
         let mut left = turns;
         for _ in 0..10 {
             left = self.spend_turn(rt, i, left)?;
@@ -194,6 +194,7 @@ impl Crew {
                 self.turn(rt, other)?;
             }
         }
-        self.let_go(rt, i)
+        self.let_go(rt, i)?;
+        Ok(left)
     }
 }
